@@ -1,0 +1,6 @@
+pub mod Cases
+pub mod Sums
+pub mod Boxes
+pub mod Choices
+pub mod Masks
+pub mod Numbers

@@ -1,6 +1,6 @@
 // Combinations and boxes as masks: a set of marks is a number with a bit for each mark.
 ghost use mathlib.Core.Path.{_≡_};
-ghost use Prim.Native.Nat.{ℕ, _+_, _*_, _-_, _^_, _<_, _≤_};
+ghost use Prim.Native.Nat.{_+_, _*_, _-_, _^_, _<_, _≤_};
 ghost use lib.Dec.{eqb};
 ghost use lib.Bits.{bitAnd};
 ghost use Rattle.boxes.specs.Boxes.{contains, freeMarks, lowest, through, single};
@@ -31,14 +31,15 @@ pub struct Digits {
     pub on: usize,
 }
 
-// x with mark i set, where x has marks below i alone.
-fn with_mark(x: usize, i: usize) -> usize
-    requires { ⌜ (i < 8) × (x < 2 ^ i) ⌝ }
-    ensures { λ r. ⌜ r ≡ 2 ^ i + x ⌝ }
+// x with v at mark i, where x has marks below i alone.
+fn with_mark(x: usize, i: usize, v: usize) -> usize
+    requires { ⌜ (i < 8) × (x < 2 ^ i) × (v < 2) ⌝ }
+    ensures { λ r. ⌜ (r ≡ v * 2 ^ i + x) × (r < 2 ^ (i + 1)) ⌝ }
 {
-    x | (1 << i)
+    x | (v << i)
 }
 
+// Takes the digits of the box b apart.
 pub fn digits_of(m: usize, b: usize) -> Digits
     requires { ⌜ m ≤ 8 ⌝ }
     ensures { λ r. ⌜ (r .free ≡ freeMarks m b) × (r .on ≡ lowest m b) ⌝ }
@@ -49,12 +50,8 @@ pub fn digits_of(m: usize, b: usize) -> Digits
     for i in 0..m {
         let d = rest % 3;
         rest = rest / 3;
-        if d == 2 {
-            free = with_mark(free, i);
-        }
-        if d == 1 {
-            on = with_mark(on, i);
-        }
+        free = with_mark(free, i, d / 2);
+        on = with_mark(on, i, d % 2);
     }
     Digits { free, on }
 }
@@ -77,18 +74,15 @@ pub fn contains(m: usize, b: usize, c: usize) -> bool
     agrees(digits_of(m, b), c)
 }
 
-// The box of the single combination c: mark i of c as digit i.
+// The box of the single combination c: its marks as digits, highest mark first.
 pub fn single(m: usize, c: usize) -> usize
     requires { ⌜ m ≤ 8 ⌝ }
     ensures { λ r. ⌜ (r ≡ single m c) × (r < 3 ^ m) ⌝ }
 {
     let mut b: usize = 0;
-    let mut p: usize = 1;
     for i in 0..m {
-        if (c >> i) & 1 == 1 {
-            b = b + p;
-        }
-        p = p * 3;
+        let k = m - 1 - i;
+        b = b * 3 + ((c >> k) & 1);
     }
     b
 }

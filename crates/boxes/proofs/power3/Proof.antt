@@ -1,37 +1,42 @@
+-- Before turn i, p is 3^i.
+use Prim.Native.Nat.{ℕ, _^_, _-_, _≤_}
+use Prim.Native.Nat.{_^_, _-_, _≤_}
+use mathlib.Core.Path.{_≡_, ap, _∙_}
+use mathlib.Core.Path.{_≡_}
+use native.Mathlib.Omega.{arith}
+use native.Mathlib.Nat.{pow-le-pow-right}
+use Rattle.boxes.proofs.Numbers.{power-next}
 use Rattle.boxes.proofs.power3.Statement.{statement}
 use Rattle.boxes.proofs.power3.Tie as tie
-use Rattle.boxes.proofs.power3.Reads as reads
-use Rattle.boxes.proofs.power3.Lts as lts
 
 abbrev Inv-loop : tie.InvT-loop
-Inv-loop m p₀ i₀ p i = ?
+Inv-loop m p₀ i₀ p i = (i ≤ m) × (p ≡ 3 ^ i)
 
 abbrev μ-loop : tie.MeasureT-loop
-μ-loop m p₀ i₀ p i = ?
+μ-loop m p₀ i₀ p i = m - i
 
--- src/lib.rt:22:5
 loop-holds : tie.Need-loop-holds Inv-loop μ-loop
-loop-holds c = ?
+loop-holds c = omega arith
 
--- src/lib.rt:23:13
 mul-p : tie.Need-mul-p Inv-loop μ-loop
-mul-p c = ?
+mul-p c = omega (arith, pow-le-pow-right {n = 3} (omega arith) {i = c .before .loop .i} {j = 8} (omega arith))
 
--- src/lib.rt:22:9
 add-i : tie.Need-add-i Inv-loop μ-loop
-add-i c = ?
+add-i c = omega arith
 
--- src/lib.rt:22:5
 loop-less : tie.Need-loop-less Inv-loop μ-loop
-loop-less c = ?
+loop-less c = omega arith
 
--- src/lib.rt:22:5
 loop-again : tie.Need-loop-again Inv-loop μ-loop
-loop-again c = ?
+loop-again c = omega (arith, power-next 3 (c .before .loop .i))
 
--- src/lib.rt:17:1
 returns : tie.Need-returns Inv-loop μ-loop
-returns c = ?
+returns c =
+    let m = c .before .before .args .m in
+    let l = c .before .loop in
+    let e : l .i ≡ m = omega arith in
+    let p : l .p ≡ 3 ^ m = l .inv .1 ∙ ap (λ (n : ℕ). 3 ^ n) e in
+    (p, omega (arith, pow-le-pow-right {n = 3} (omega arith) {i = m} {j = 8} (omega arith)))
 
 pub power3-spec : {M : Type 1} → statement M
 power3-spec =

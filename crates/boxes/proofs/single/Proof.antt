@@ -1,47 +1,76 @@
+-- After i turns b is the box of the i highest marks.
+use Prim.Native.Nat.{ℕ, _-_, _/_, _^_, _≤_, _<_}
+use mathlib.Core.Path.{_≡_, sym, subst}
+use native.Mathlib.Omega.{arith}
+use native.Mathlib.Nat.{pow-le-pow-right}
+use lib.Bits.{mask-lt}
+use borrow.Author.Needs.{needs}
+use Rattle.boxes.proofs.Choices.{through-lt, single-none, single-put, single-done}
+use Rattle.boxes.specs.Boxes.{single}
 use Rattle.boxes.proofs.single.Statement.{statement}
 use Rattle.boxes.proofs.single.Tie as tie
-use Rattle.boxes.proofs.single.Reads as reads
-use Rattle.boxes.proofs.single.Lts as lts
 
 abbrev Inv-loop : tie.InvT-loop
-Inv-loop m c b₀ p₀ i₀ b p i = ?
+Inv-loop m c b₀ i₀ b i = (i ≤ m) × (b ≡ single i (c / 2 ^ (m - i)))
 
 abbrev μ-loop : tie.MeasureT-loop
-μ-loop m c b₀ p₀ i₀ b p i = ?
+μ-loop m c b₀ i₀ b i = m - i
 
--- src/lib.rt:87:5
+-- b stays below 3^i, so far below 2^64
+small : (c : tie.In-loop Inv-loop μ-loop) → c .before .loop .b < 6561
+small c =
+    let l = c .before .loop in
+    let p = pow-le-pow-right {n = 3} (omega arith) {i = l .i} {j = 8} (omega arith) in
+    omega (arith, l .inv .1, through-lt (l .i) (c .before .before .args .c / 2 ^ (c .before .before .args .m - l .i)) 0)
+
 loop-holds : tie.Need-loop-holds Inv-loop μ-loop
-loop-holds c = ?
+loop-holds c = (omega arith, single-none _ _)
 
--- src/lib.rt:88:13
-shr-if1 : tie.Need-shr-if1 Inv-loop μ-loop
-shr-if1 c = ?
+sub-k : tie.Need-sub-k Inv-loop μ-loop
+sub-k c = search needs
 
--- src/lib.rt:89:17
+sub-k-2 : tie.Need-sub-k-2 Inv-loop μ-loop
+sub-k-2 c = search needs
+
+mul-b : tie.Need-mul-b Inv-loop μ-loop
+mul-b c = omega (arith, small c)
+
+shr-b : tie.Need-shr-b Inv-loop μ-loop
+shr-b c = search needs
+
 add-b : tie.Need-add-b Inv-loop μ-loop
-add-b c = ?
+add-b c = let a = c .before .before .args in omega (arith, small c, mask-lt (a .c / 2 ^ (a .m - 1 - c .before .loop .i)) 1)
 
--- src/lib.rt:91:13
-mul-p : tie.Need-mul-p Inv-loop μ-loop
-mul-p c = ?
-
--- src/lib.rt:87:9
 add-i : tie.Need-add-i Inv-loop μ-loop
-add-i c = ?
+add-i c = search needs
 
--- src/lib.rt:87:5
 loop-less : tie.Need-loop-less Inv-loop μ-loop
-loop-less c = ?
+loop-less c = search needs
 
--- src/lib.rt:87:5
 loop-again : tie.Need-loop-again Inv-loop μ-loop
-loop-again c = ?
+loop-again c = (omega arith, single-put _ _ _ _ (c .loop-test .taken) (c .before .loop .inv .1))
 
--- src/lib.rt:81:1
 returns : tie.Need-returns Inv-loop μ-loop
-returns c = ?
+returns c =
+    let a = c .before .before .args in
+    let l = c .before .loop in
+    let e : l .i ≡ a .m = omega arith in
+    let b = single-done (a .m) (a .c) (l .b) (subst (λ (n : ℕ). l .b ≡ single n (a .c / 2 ^ (a .m - n))) e (l .inv .1)) in
+    (b, subst (λ (n : ℕ). n < 3 ^ a .m) (sym b) (through-lt (a .m) (a .c) 0))
 
 pub single-spec : {M : Type 1} → statement M
 single-spec =
     tie.close
-    (tie.spec Inv-loop μ-loop loop-holds shr-if1 add-b mul-p add-i loop-less loop-again returns)
+    (tie.spec
+    Inv-loop
+    μ-loop
+    loop-holds
+    sub-k
+    sub-k-2
+    mul-b
+    shr-b
+    add-b
+    add-i
+    loop-less
+    loop-again
+    returns)
