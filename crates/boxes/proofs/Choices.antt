@@ -8,7 +8,7 @@ use native.Mathlib.Numerals.{add-one}
 use native.Mathlib.Decide.{le-ind}
 use native.Mathlib.Omega.{arith}
 use lib.Dec.{eqb, lit<}
-use lib.Bits.{bitAnd, bitOr, or-step, and-mask}
+use lib.Bits.{bitOr, or-step}
 use lib.Count.{ones, ones-step}
 use lib.Pow.{pow-mono, shr-shr}
 use borrow.Author.Tests.{eq-eqb, ne-eqb, eqb-true}
@@ -185,15 +185,14 @@ pub single-none : (m c : ℕ) → 0 ≡ single 0 (c / 2 ^ (m - 0))
 unfolding through
 single-none m c = refl
 
-pub single-put : (m c i b : ℕ) → i < m → b ≡ single i (c / 2 ^ (m - i))
-    → b * 3 + bitAnd (c / 2 ^ (m - 1 - i)) 1 ≡ single (i + 1) (c / 2 ^ (m - (i + 1)))
+pub single-put : (m c i b : ℕ) → i < m → b ≡ single i (c / 2 ^ (m - i)) → b * 3 + c / 2 ^ (m - 1 - i) % 2 ≡ single (i + 1) (c / 2 ^ (m - (i + 1)))
 unfolding through
 single-put m c i b l e =
     let k : m - 1 - i ≡ m - (i + 1) = omega arith in
     let n : m - (i + 1) + 1 ≡ m - i = omega arith in
     let x = c / 2 ^ (m - (i + 1)) in
     let h : x / 2 ≡ c / 2 ^ (m - i) = shr-shr c (m - (i + 1)) 1 ∙ ap (λ (j : ℕ). c / 2 ^ j) n in
-    let v : bitAnd (c / 2 ^ (m - 1 - i)) 1 ≡ x % 2 = ap (λ (j : ℕ). bitAnd (c / 2 ^ j) 1) k ∙ and-mask x 1 in
+    let v : c / 2 ^ (m - 1 - i) % 2 ≡ x % 2 = ap (λ (j : ℕ). c / 2 ^ j % 2) k in
     let s : single (i + 1) x ≡ single i (x / 2) * 3 + x % 2 = ap (λ (j : ℕ). single j x) (add-one i) ∙ omega arith in
     omega (arith, ap (single i) h)
 

@@ -1,6 +1,6 @@
 // Combinations and boxes as masks: a set of marks is a number with a bit for each mark.
 ghost use mathlib.Core.Path.{_≡_};
-ghost use Prim.Native.Nat.{_+_, _*_, _-_, _^_, _<_, _≤_};
+ghost use Prim.Native.Nat.{_+_, _*_, _-_, _/_, _%_, _^_, _<_, _≤_};
 ghost use lib.Dec.{eqb};
 ghost use lib.Bits.{bitAnd};
 ghost use Rattle.boxes.specs.Boxes.{contains, freeMarks, lowest, through, single};
@@ -74,6 +74,14 @@ pub fn contains(m: usize, b: usize, c: usize) -> bool
     agrees(digits_of(m, b), c)
 }
 
+// Mark i of the combination c: 1 if it is on.
+pub fn mark(c: usize, i: usize) -> usize
+    requires { ⌜ i < 64 ⌝ }
+    ensures { λ r. ⌜ (r ≡ c / 2 ^ i % 2) × (r < 2) ⌝ }
+{
+    (c >> i) & 1
+}
+
 // The box of the single combination c: its marks as digits, highest mark first.
 pub fn single(m: usize, c: usize) -> usize
     requires { ⌜ m ≤ 8 ⌝ }
@@ -82,7 +90,7 @@ pub fn single(m: usize, c: usize) -> usize
     let mut b: usize = 0;
     for i in 0..m {
         let k = m - 1 - i;
-        b = b * 3 + ((c >> k) & 1);
+        b = b * 3 + mark(c, k);
     }
     b
 }

@@ -1,9 +1,8 @@
 -- After i turns b is the box of the i highest marks.
-use Prim.Native.Nat.{ℕ, _-_, _/_, _^_, _≤_, _<_}
-use mathlib.Core.Path.{_≡_, sym, subst}
+use Prim.Native.Nat.{ℕ, _+_, _*_, _-_, _/_, _^_, _≤_, _<_}
+use mathlib.Core.Path.{_≡_, sym, _∙_, ap, subst}
 use native.Mathlib.Omega.{arith}
 use native.Mathlib.Nat.{pow-le-pow-right}
-use lib.Bits.{mask-lt}
 use borrow.Author.Needs.{needs}
 use Rattle.boxes.proofs.Choices.{through-lt, single-none, single-put, single-done}
 use Rattle.boxes.specs.Boxes.{single}
@@ -35,11 +34,11 @@ sub-k-2 c = search needs
 mul-b : tie.Need-mul-b Inv-loop μ-loop
 mul-b c = omega (arith, small c)
 
-shr-b : tie.Need-shr-b Inv-loop μ-loop
-shr-b c = search needs
+mark-requires : tie.Need-mark-requires Inv-loop μ-loop
+mark-requires c κs = search needs
 
 add-b : tie.Need-add-b Inv-loop μ-loop
-add-b c = let a = c .before .before .args in omega (arith, small c, mask-lt (a .c / 2 ^ (a .m - 1 - c .before .loop .i)) 1)
+add-b c = omega (arith, small (c .before))
 
 add-i : tie.Need-add-i Inv-loop μ-loop
 add-i c = search needs
@@ -48,7 +47,9 @@ loop-less : tie.Need-loop-less Inv-loop μ-loop
 loop-less c = search needs
 
 loop-again : tie.Need-loop-again Inv-loop μ-loop
-loop-again c = (omega arith, single-put _ _ _ _ (c .loop-test .taken) (c .before .loop .inv .1))
+loop-again c =
+    let l = c .before .before .loop in
+    (omega arith, ap (λ (v : ℕ). l .b * 3 + v) (c .mark .ensures .0) ∙ single-put _ _ _ _ (c .before .loop-test .taken) (l .inv .1))
 
 returns : tie.Need-returns Inv-loop μ-loop
 returns c =
@@ -68,7 +69,7 @@ single-spec =
     sub-k
     sub-k-2
     mul-b
-    shr-b
+    mark-requires
     add-b
     add-i
     loop-less
