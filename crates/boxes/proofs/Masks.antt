@@ -2,7 +2,7 @@
 use Prim.Native.Nat.{ℕ, zero, suc, _+_, _*_, _-_, _/_, _%_, _^_, _<_, _≤_, min, max}
 use mathlib.Core.Bool.{Bool, true, _&&_}
 use mathlib.Core.Path.{_≡_, refl, sym, _∙_, ap, ap₂}
-use native.Mathlib.Nat.{pow-suc, sub-zero, mod-eq-of-lt}
+use native.Mathlib.Nat.{pow-suc, sub-zero, zero-mul, div-one, div-div-eq-div-mul, mod-eq-of-lt}
 use native.Mathlib.Omega.{arith}
 use lib.Dec.{eqb}
 use lib.Bits.{bitAnd, and-step, and-mask}
@@ -10,6 +10,7 @@ use lib.Pow.{pow-mono}
 use borrow.Author.Tests.{eq-eqb}
 use Rattle.boxes.specs.Boxes.{agrees, contains, freeMarks, lowest}
 use Rattle.boxes.proofs.Cases.{mark, digit, and-left, and-right, eqb-pair}
+use Rattle.boxes.proofs.Numbers.{power-next, digit-put, digits-done}
 use Rattle.boxes.proofs.Choices.{freeMarks-lt, free-digit}
 
 -- the complement of a set of marks, at k bits, mark by mark
@@ -70,6 +71,27 @@ freeMarks-end m i b l = let s : m - i ≡ 0 = omega arith in ap (λ (n : ℕ). f
 pub lowest-end : (m i b : ℕ) → m ≤ i → lowest (m - i) b ≡ 0
 unfolding lowest
 lowest-end m i b l = let s : m - i ≡ 0 = omega arith in ap (λ (n : ℕ). lowest n b) s
+
+-- the lowest free mark: none is free below mark i, where `rest` has the digits of b from mark i on
+pub record Unfree (m b i rest : ℕ) : Type 0 where
+  pub digits : rest ≡ b / 3 ^ i
+  pub marks : freeMarks m b ≡ freeMarks (m - i) rest * 2 ^ i + 0
+
+pub unfree-start : (m b : ℕ) → Unfree m b 0 b
+unfree-start m b = record { digits = sym (div-one b); marks = simp sub-zero (omega arith) }
+
+pub unfree-more : (m b i rest : ℕ) → i < m → (rest % 3 ≡ 2 → ⊥) → Unfree m b i rest → Unfree m b (i + 1) (rest / 3)
+unfree-more m b i rest l n u =
+    let z : rest % 3 / 2 ≡ 0 = omega arith in
+    let k : freeMarks (m - i) rest ≡ freeMarks (m - (i + 1)) (rest / 3) * 2 + 0 =
+    freeMarks-more m i rest l ∙ ap (λ (v : ℕ). freeMarks (m - (i + 1)) (rest / 3) * 2 + v) z in
+    record {
+      digits = ap (λ (x : ℕ). x / 3) (u .digits) ∙ div-div-eq-div-mul b (3 ^ i) 3 ∙ ap (λ (x : ℕ). b / x) (sym (power-next 3 i));
+      marks = digit-put 2 i _ _ _ 0 0 0 k (u .marks) (omega (arith, zero-mul (2 ^ i)));
+    }
+
+pub unfree-end : (m b i rest : ℕ) → m ≤ i → Unfree m b i rest → freeMarks m b ≡ 0
+unfree-end m b i rest l u = sym (digits-done 2 i _ _ 0 (freeMarks-end m i rest l) (u .marks))
 
 -- Two boxes meet, which is to say that some combination is in both, exactly if each wants on, of what the other fixes, what the other wants on.
 

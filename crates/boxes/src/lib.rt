@@ -3,7 +3,7 @@ ghost use mathlib.Core.Path.{_≡_};
 ghost use Prim.Native.Nat.{_+_, _*_, _-_, _/_, _%_, _^_, _<_, _≤_};
 ghost use lib.Dec.{eqb};
 ghost use lib.Bits.{bitAnd};
-ghost use Rattle.boxes.specs.Boxes.{contains, freeMarks, lowest, through, single};
+ghost use Rattle.boxes.specs.Boxes.{contains, freeMarks, lowest, through, single, FreePower};
 
 // The number of combinations of m marks.
 pub fn power2(m: usize) -> usize
@@ -101,4 +101,21 @@ pub fn through(m: usize, c: usize, t: usize) -> usize
     ensures { λ r. ⌜ (r ≡ through m c t) × (r < 3 ^ m) ⌝ }
 {
     single(m, c | t) + single(m, t)
+}
+
+// The power of 3 of the lowest free mark of the box b, and 0 where no mark is free.
+pub fn free_power(m: usize, b: usize) -> usize
+    requires { ⌜ m ≤ 8 ⌝ }
+    ensures { λ r. ⌜ FreePower m b r ⌝ }
+{
+    let mut p: usize = 1;
+    let mut rest = b;
+    for i in 0..m {
+        if rest % 3 == 2 {
+            return p;
+        }
+        rest = rest / 3;
+        p = p * 3;
+    }
+    0
 }
