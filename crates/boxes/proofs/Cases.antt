@@ -1,7 +1,7 @@
 -- Cases inside a term, with what is known in each: of a test, of two numbers, of a mark and of a digit.
 use Prim.Native.Nat.{ℕ, zero, suc, _*_, _+_, _<_, _≤_}
-use mathlib.Core.Bool.{Bool, true, false, _&&_}
-use mathlib.Core.Path.{_≡_, refl}
+use mathlib.Core.Bool.{Bool, true, false, _&&_, true≢false}
+use mathlib.Core.Path.{_≡_, refl, sym, _∙_}
 use native.Mathlib.Omega.{arith}
 use lib.Dec.{eqb, ltb}
 use borrow.Author.Tests.{ltb-true, ltb-false, eqb-true, eqb-false, eq-eqb, ne-eqb}
@@ -9,6 +9,10 @@ use borrow.Author.Tests.{ltb-true, ltb-false, eqb-true, eqb-false, eq-eqb, ne-eq
 pub if : {P : Type 0} (t : Bool) → (t ≡ true → P) → (t ≡ false → P) → P
 if true yes-then no-then = yes-then refl
 if false yes-then no-then = no-then refl
+
+-- no test has both outcomes
+pub clash : {P : Type 0} {t : Bool} → t ≡ true → t ≡ false → P
+clash {P} {t} y n = absurd (true≢false (sym y ∙ n))
 
 -- a is below b, or b at most a
 pub below-or : {P : Type 0} (a b : ℕ) → (a < b → P) → (b ≤ a → P) → P

@@ -39,6 +39,11 @@ unfolding freeMarks
 freeMarks-lt zero b = lit< tt
 freeMarks-lt (suc m) b = omega (arith, pow-suc 2 m, freeMarks-lt m (b / 3))
 
+pub lowest-lt : (m b : ℕ) → lowest m b < 2 ^ m
+unfolding lowest
+lowest-lt zero b = lit< tt
+lowest-lt (suc m) b = omega (arith, pow-suc 2 m, lowest-lt m (b / 3))
+
 -- that contains c, and has the free marks t
 
 through-agrees : (v f : ℕ) → v < 2 → f < 2 → agrees (max v (f * 2)) v ≡ true

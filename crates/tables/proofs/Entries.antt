@@ -1,0 +1,27 @@
+-- Tables by their entries: two tables of one length with the same entries are one.
+use Prim.Native.Nat.{ℕ, zero, suc, _<_}
+use mathlib.Core.Path.{_≡_, refl, sym, _∙_, ap}
+use mathlib.Core.List.{List}
+use native.Mathlib.Omega.{arith}
+use lib.ListN.{length, getD}
+use lib.Seq.{ext-getD}
+use Rattle.tables.specs.Tables.{tab, entry}
+
+pub tab-length : (n : ℕ) (f : ℕ → ℕ) → length (tab n f) ≡ n
+unfolding tab
+tab-length zero f = refl
+tab-length (suc n) f = ap suc (tab-length n (λ k. f (suc k)))
+
+pub tab-entry : (n : ℕ) (f : ℕ → ℕ) (b : ℕ) → b < n → entry (tab n f) b ≡ f b
+unfolding tab
+tab-entry zero f b l = absurd (omega arith)
+tab-entry (suc n) f zero l = refl
+tab-entry (suc n) f (suc b) l = tab-entry n (λ k. f (suc k)) b (omega arith)
+
+pub tab-of : (n : ℕ) (f : ℕ → ℕ) (t : List ℕ) → length t ≡ n → ((b : ℕ) → b < n → entry t b ≡ f b) → t ≡ tab n f
+tab-of n f t e h =
+    ext-getD 0 t (tab n f) (e ∙ sym (tab-length n f))
+    (λ b l. let q : b < n = omega arith in h b q ∙ sym (tab-entry n f b q))
+
+pub tab-ext : (n : ℕ) (f g : ℕ → ℕ) → ((b : ℕ) → b < n → f b ≡ g b) → tab n f ≡ tab n g
+tab-ext n f g h = tab-of n g (tab n f) (tab-length n f) (λ b l. tab-entry n f b l ∙ h b l)

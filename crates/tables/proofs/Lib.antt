@@ -1,0 +1,4 @@
+pub mod Entries
+pub mod Moves
+pub mod Touched
+pub mod Halves

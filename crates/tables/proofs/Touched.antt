@@ -1,0 +1,64 @@
+-- The touched entries are those of the boxes through c, one for each set of free marks.
+use Prim.Native.Nat.{ℕ, zero, suc, _+_, _*_, _^_, _<_, _≤_}
+use mathlib.Core.Bool.{Bool, true, false, not, _&&_, _||_}
+use mathlib.Core.Path.{_≡_, refl, sym, _∙_, ap, ap₂}
+use mathlib.Core.List.{List}
+use lib.Count.{ones}
+use lib.Dec.{leb, ltb}
+use native.Mathlib.Omega.{arith}
+use Rattle.boxes.specs.Boxes.{contains, freeMarks, through}
+use Rattle.boxes.proofs.Cases.{if, clash, same-or, and-left, and-right, and-no}
+use Rattle.boxes.proofs.Boxes.{contains-box}
+use Rattle.boxes.proofs.Choices.{through-lt, through-contains, through-free, freeMarks-lt, freeCount-through}
+use Rattle.tables.specs.Tables.{entry, every, touched, inBounds}
+
+pub every-yes : (n : ℕ) (p : ℕ → Bool) → ((b : ℕ) → b < n → p b ≡ true) → every n p ≡ true
+unfolding every
+every-yes zero p h = refl
+every-yes (suc n) p h = rw (every-yes n p (λ b l. h b (omega arith)), h n (omega arith))
+
+pub every-at : (n : ℕ) (p : ℕ → Bool) (b : ℕ) → every n p ≡ true → b < n → p b ≡ true
+unfolding every
+every-at zero p b e l = absurd (omega arith)
+every-at (suc n) p b e l =
+    same-or b n
+    (λ s. ap p s ∙ and-right (every n p) (p n) e)
+    (λ d. every-at n p b (and-left (every n p) (p n) e) (omega arith))
+
+pub every-no : (n : ℕ) (p : ℕ → Bool) (b : ℕ) → b < n → p b ≡ false → every n p ≡ false
+every-no n p b l f = if (every n p) (λ e. clash (every-at n p b e l) f) (λ e. e)
+
+each : (a x : Bool) → a ≡ true → (not a || x) ≡ x
+each a x e = rw e
+
+other : (a x : Bool) → a ≡ false → (not a || x) ≡ true
+other a x e = rw e
+
+module _ (m c : ℕ) (p : ℕ → Bool) where
+  pub touched-at : touched m c p ≡ true → (b : ℕ) → contains m b c ≡ true → p b ≡ true
+  touched-at e b h = rw (sym (each (contains m b c) (p b) h)) (every-at (3 ^ m) (λ b. not (contains m b c) || p b) b e (contains-box m b c h))
+
+  pub touched-yes : ((b : ℕ) → contains m b c ≡ true → p b ≡ true) → touched m c p ≡ true
+  touched-yes h = every-yes (3 ^ m) _ (λ b l. if (contains m b c) (λ e. each (contains m b c) (p b) e ∙ h b e) (λ e. other (contains m b c) (p b) e))
+
+  -- told by the free marks
+  pub touched-all : ((k : ℕ) → k < 2 ^ m → p (through m c k) ≡ true) → touched m c p ≡ true
+  touched-all h = touched-yes (λ b e. ap p (sym (through-free m b c e)) ∙ h (freeMarks m b) (freeMarks-lt m b))
+
+  pub touched-no : (k : ℕ) → c < 2 ^ m → p (through m c k) ≡ false → touched m c p ≡ false
+  touched-no k l f =
+      let b = through m c k in
+      every-no (3 ^ m) (λ b. not (contains m b c) || p b) b (through-lt m c k) (each (contains m b c) (p b) (through-contains m c k l) ∙ f)
+
+-- the same of each touched entry, the same answer
+pub touched-ext : (m c : ℕ) (p q : ℕ → Bool) → ((b : ℕ) → contains m b c ≡ true → p b ≡ q b) → touched m c p ≡ touched m c q
+touched-ext m c p q h =
+    if (touched m c q)
+    (λ e. touched-yes m c p (λ b w. h b w ∙ touched-at m c q e b w) ∙ sym e)
+    (λ e. if (touched m c p) (λ y. clash (touched-yes m c q (λ b w. sym (h b w) ∙ touched-at m c p y b w)) e) (λ n. n ∙ sym e))
+
+-- the box of turn k, judged by the number of its free marks
+pub judged : (m c k : ℕ) (t : List ℕ) (low high each b : ℕ) (r : Bool) → k < 2 ^ m → b ≡ through m c k
+    → r ≡ (leb low (entry t b) && ltb (entry t b) (high + each * 2 ^ ones k)) → inBounds m t low high each (through m c k) ≡ r
+judged m c k t low high each b r l e j =
+    ap₂ (λ (x f : ℕ). leb low (entry t x) && ltb (entry t x) (high + each * 2 ^ f)) (sym e) (freeCount-through m c k l) ∙ sym j
