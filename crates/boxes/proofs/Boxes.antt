@@ -83,6 +83,11 @@ pub sumIn-zero : (m b : ℕ) → sumIn m b (λ c. 0) ≡ 0
 unfolding sumIn
 sumIn-zero m b = simp only-zero (sum-zero (2 ^ m))
 
+-- a number that is no box has nothing
+pub sumIn-nothing : (m b : ℕ) (f : ℕ → ℕ) → 3 ^ m ≤ b → sumIn m b f ≡ 0
+unfolding sumIn
+sumIn-nothing m b f l = sum-ext (2 ^ m) _ _ (λ c lc. ap (λ (t : Bool). only t (f c)) (contains-nothing m b c l)) ∙ sum-zero (2 ^ m)
+
 pub sumIn-mono : (m b : ℕ) (f g : ℕ → ℕ) → ((c : ℕ) → c < 2 ^ m → f c ≤ g c) → sumIn m b f ≤ sumIn m b g
 unfolding sumIn
 sumIn-mono m b f g h = sum-le (2 ^ m) _ _ (λ c l. only-mono (contains m b c) (h c l))

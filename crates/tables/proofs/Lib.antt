@@ -2,3 +2,4 @@ pub mod Entries
 pub mod Moves
 pub mod Touched
 pub mod Halves
+pub mod Afresh

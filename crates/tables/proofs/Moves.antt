@@ -52,11 +52,11 @@ module _ {m c k : ℕ} {g : ℕ → ℕ} {t₀ t : List ℕ} (v : Moved m c k g 
       record {
         long = length-set t at x ∙ v .long;
         gone = λ b e l. same-or b at
-          (λ s. ap (entry (set t at x)) s ∙ here ∙ ap (λ (z : ℕ). g (entry t₀ z)) (sym s))
-          (λ n. getD-set-other t at b x 0 n ∙ v .gone b e (below-or (freeMarks m b) k (λ q. q) (λ q. absurd (n (turn-is b e (omega arith))))));
+            (λ s. ap (entry (set t at x)) s ∙ here ∙ ap (λ (z : ℕ). g (entry t₀ z)) (sym s))
+            (λ n. getD-set-other t at b x 0 n ∙ v .gone b e (below-or (freeMarks m b) k (λ q. q) (λ q. absurd (n (turn-is b e (omega arith))))));
         rest = λ b h. same-or b at
-          (λ s. absurd (omega (arith, h (ap (λ (z : ℕ). contains m z c) s ∙ through-contains m c k lc), ap (freeMarks m) s, freeMarks-through m c k lk)))
-          (λ n. getD-set-other t at b x 0 n ∙ v .rest b (λ e. omega (arith, h e)));
+            (λ s. absurd (omega (arith, h (ap (λ (z : ℕ). contains m z c) s ∙ through-contains m c k lc), ap (freeMarks m) s, freeMarks-through m c k lk)))
+            (λ n. getD-set-other t at b x 0 n ∙ v .rest b (λ e. omega (arith, h e)));
       }
 
 -- turn k, at the box b through c with the free marks k: it is touched, has not moved yet, and moves now
@@ -82,8 +82,8 @@ pub moved-all : {m c : ℕ} {g : ℕ → ℕ} {t₀ t : List ℕ} → Moved m c 
 moved-all {m} {c} {g} {t₀} {t} v =
     tab-of (length t₀) _ t (v .long)
     (λ b l. if (contains m b c)
-      (λ e. v .gone b e (freeMarks-lt m b) ∙ ap (λ (z : Bool). cond z (g (entry t₀ b)) (entry t₀ b)) (sym e))
-      (λ e. v .rest b (λ w. clash w e) ∙ ap (λ (z : Bool). cond z (g (entry t₀ b)) (entry t₀ b)) (sym e)))
+    (λ e. v .gone b e (freeMarks-lt m b) ∙ ap (λ (z : Bool). cond z (g (entry t₀ b)) (entry t₀ b)) (sym e))
+    (λ e. v .rest b (λ w. clash w e) ∙ ap (λ (z : Bool). cond z (g (entry t₀ b)) (entry t₀ b)) (sym e)))
 
 -- by d more and by d less
 

@@ -1,5 +1,5 @@
 -- The touched entries are those of the boxes through c, one for each set of free marks.
-use Prim.Native.Nat.{ℕ, zero, suc, _+_, _*_, _^_, _<_, _≤_}
+use Prim.Native.Nat.{ℕ, zero, suc, _+_, _*_, _^_, _<_}
 use mathlib.Core.Bool.{Bool, true, false, not, _&&_, _||_}
 use mathlib.Core.Path.{_≡_, refl, sym, _∙_, ap, ap₂}
 use mathlib.Core.List.{List}
@@ -7,7 +7,7 @@ use lib.Count.{ones}
 use lib.Dec.{leb, ltb}
 use native.Mathlib.Omega.{arith}
 use Rattle.boxes.specs.Boxes.{contains, freeMarks, through}
-use Rattle.boxes.proofs.Cases.{if, clash, same-or, and-left, and-right, and-no}
+use Rattle.boxes.proofs.Cases.{if, clash, same-or, and-left, and-right}
 use Rattle.boxes.proofs.Boxes.{contains-box}
 use Rattle.boxes.proofs.Choices.{through-lt, through-contains, through-free, freeMarks-lt, freeCount-through}
 use Rattle.tables.specs.Tables.{entry, every, touched, inBounds}

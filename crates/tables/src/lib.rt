@@ -8,7 +8,6 @@ ghost use lib.ListN.{length};
 ghost use Rattle.boxes.specs.Boxes.{contains, sumIn, allFree};
 ghost use Rattle.tables.specs.Tables.{entry, own, afresh, raised, lowered, touched, inBounds, Sums};
 ghost use Rattle.tables.specs.Halving.{Halving};
-
 use boxes;
 
 // d more in each box that contains the combination c.

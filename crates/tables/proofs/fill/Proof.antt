@@ -1,50 +1,50 @@
+-- The entries below b stand.
+use Prim.Native.Nat.{_-_, _≤_}
+use mathlib.Core.Path.{_≡_, refl}
+use native.Mathlib.Omega.{arith}
+use lib.ListN.{length}
+use borrow.Author.Needs.{needs}
+use Rattle.tables.proofs.Afresh.{Standing, standing-none, standing-more, standing-all}
 use Rattle.tables.proofs.fill.Statement.{statement}
 use Rattle.tables.proofs.fill.Tie as tie
-use Rattle.tables.proofs.fill.Reads as reads
-use Rattle.tables.proofs.fill.Lts as lts
-use Rattle.tables.proofs.worked_out.Reads as worked-out-reads
 
 abbrev Inv-loop : tie.InvT-loop
-Inv-loop m own t₀ n b₀ t b = ?
+Inv-loop m own t₀ n b₀ t b = (b ≤ n) × (n ≡ length t₀) × Standing m own t₀ t b
 
 abbrev μ-loop : tie.MeasureT-loop
-μ-loop m own t₀ n b₀ t b = ?
+μ-loop m own t₀ n b₀ t b = n - b
 
--- src/lib.rt:117:5
 loop-holds : tie.Need-loop-holds Inv-loop μ-loop
-loop-holds c = ?
+loop-holds c = (omega arith, refl, standing-none _ _ _)
 
--- src/lib.rt:118:16
 worked-out-requires : tie.Need-worked-out-requires Inv-loop μ-loop
-worked-out-requires c κs = ?
+worked-out-requires c κs =
+    let s = c .before .before .before .before .before in
+    let l = c .before .before .loop in
+    (s .pre .0, s .pre .1, omega (arith, l .inv .2 .long), s .pre .2, l .inv .2 .done)
 
--- src/lib.rt:118:9
 mul-t : tie.Need-mul-t Inv-loop μ-loop
-mul-t c = ?
+mul-t c = search needs
 
--- src/lib.rt:118:9
 slice-write-t : tie.Need-slice-write-t Inv-loop μ-loop
-slice-write-t c = ?
+slice-write-t c = omega (arith, c .before .before .before .loop .inv .2 .long)
 
--- src/lib.rt:117:9
 add-b : tie.Need-add-b Inv-loop μ-loop
-add-b c = ?
+add-b c = search needs
 
--- src/lib.rt:117:5
 loop-less : tie.Need-loop-less Inv-loop μ-loop
-loop-less c = ?
+loop-less c = search needs
 
--- src/lib.rt:117:5
 loop-again : tie.Need-loop-again Inv-loop μ-loop
-loop-again c = ?
+loop-again c =
+    let l = c .before .before .before .loop in
+    (omega arith, refl, standing-more _ (l .inv .2) (omega arith) (c .worked-out .ensures))
 
--- src/lib.rt:112:1
 same-length : tie.Need-same-length Inv-loop μ-loop
-same-length c = ?
+same-length c = c .before .loop .inv .2 .long
 
--- src/lib.rt:112:1
 returns : tie.Need-returns Inv-loop μ-loop
-returns c = ?
+returns c = standing-all (c .before .loop .inv .2) (omega arith)
 
 pub fill-spec : {M : Type 1} → statement M
 fill-spec =

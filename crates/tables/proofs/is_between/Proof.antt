@@ -1,9 +1,9 @@
-use Prim.Native.Nat.{ℕ, _+_, _*_, _^_, _≤_}
-use mathlib.Core.Path.{_≡_, refl, _∙_, sym, ap₂}
+use Prim.Native.Nat.{ℕ, _+_, _*_, _≤_}
+use mathlib.Core.Path.{ap₂}
 use native.Mathlib.Omega.{arith}
 use native.Mathlib.Nat.{mul-le-mul-right}
-use lib.Dec.{ltb, leb}
-use lib.Count.{ones, ones-le}
+use lib.Dec.{ltb}
+use lib.Count.{ones-le}
 use borrow.Author.Tests.{le-leb, lt-leb}
 use borrow.Author.Needs.{needs}
 use Rattle.tables.proofs.is_between.Statement.{statement}

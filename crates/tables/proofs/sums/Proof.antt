@@ -1,11 +1,10 @@
 -- Every box below b has passed its test.
 use Prim.Native.Nat.{ℕ, _-_, _^_, _≤_, _<_}
 use mathlib.Core.Path.{refl}
-use mathlib.Core.Bool.{true≢false}
 use mathlib.Core.Path.{_≡_}
 use native.Mathlib.Omega.{arith}
 use borrow.Author.Needs.{needs}
-use borrow.Author.Count.{below-none, below-more}
+use borrow.Author.Count.{below-more}
 use borrow.Author.Tests.{not-true, not-false}
 use Rattle.boxes.proofs.Cases.{clash}
 use Rattle.tables.proofs.Halves.{Passed, passed, all-passed, failed}

@@ -1,75 +1,75 @@
+-- No box has nothing, a single combination its own, any other box its two halves; no sum is above that of all combinations.
+use Prim.Native.Nat.{_+_, _*_, _-_}
+use mathlib.Core.Path.{_≡_, sym, _∙_, ap}
+use native.Mathlib.Omega.{arith}
+use native.Mathlib.Nat.{pow-le-pow-right}
 use borrow.Author.Needs.{needs}
+use Rattle.tables.proofs.Halves.{power-fits, single-sum, half-sum}
+use Rattle.tables.specs.Tables.{entry}
+use Rattle.boxes.specs.Boxes.{sumIn}
+use Rattle.boxes.proofs.Choices.{lowest-lt}
+use Rattle.boxes.proofs.Boxes.{sumIn-nothing, sumIn-le-all}
 use Rattle.tables.proofs.worked_out.Statement.{statement}
 use Rattle.tables.proofs.worked_out.Tie as tie
-use Rattle.tables.proofs.worked_out.Reads as reads
-use Rattle.tables.proofs.worked_out.Lts as lts
-use Rattle.boxes.proofs.digits_of.Reads as digits-of-reads
-use Rattle.boxes.proofs.free_power.Reads as free-power-reads
-use Rattle.boxes.proofs.power3.Reads as power3-reads
 
--- src/lib.rt:100:8
+halves : (c : tie.After-shared-slice-known5)
+    → let a = c .before .before .before .before .before .before .before .before .args in
+    let p = c .before .before .before .free-power .result in
+    entry (a .t .now) (a .b - p) + entry (a .t .now) (a .b - p * 2) ≡ sumIn (a .m) (a .b) (entry (a .own .now))
+halves c =
+    let a = c .before .before .before .before .before .before .before .before in
+    half-sum (entry (a .args .t .now)) (entry (a .args .own .now)) (c .before .before .before .free-power .ensures) (omega arith) (a .pre .4)
+
 power3-requires : tie.Need-power3-requires
 power3-requires c κs = search needs
 
--- src/lib.rt:101:9
 returns : tie.Need-returns
-returns c = ?
+returns c = sym (sumIn-nothing _ _ _ (omega (arith, c .before .power3 .ensures .0, c .if1 .taken)))
 
--- src/lib.rt:103:9
 free-power-requires : tie.Need-free-power-requires
 free-power-requires c κs = search needs
 
--- src/lib.rt:105:17
 digits-of-requires : tie.Need-digits-of-requires
 digits-of-requires c κs = search needs
 
--- src/lib.rt:106:16
 mul-result : tie.Need-mul-result
-mul-result c = ?
+mul-result c = let a = c .before .before .before .before .before .before .before in omega (arith, c .digits-of .ensures .1, lowest-lt (a .args .m) (a .args .b), pow-le-pow-right {n = 2} (omega arith) {i = a .args .m} {j = 8} (omega arith))
 
--- src/lib.rt:106:16
 shared-slice-read-result : tie.Need-shared-slice-read-result
-shared-slice-read-result c = ?
+shared-slice-read-result c = let a = c .before .before .before .before .before .before .before .before in omega (arith, c .before .digits-of .ensures .1, lowest-lt (a .args .m) (a .args .b))
 
--- src/lib.rt:106:9
 returns-2 : tie.Need-returns-2
-returns-2 c = ?
+returns-2 c =
+    let a = c .before .before .before .before .before .before .before .before .args in
+    ap (entry (a .own .now)) (c .before .digits-of .ensures .1)
+    ∙ single-sum (entry (a .own .now)) (c .before .before .before .free-power .ensures) (omega arith) (c .before .before .if2 .taken)
 
--- src/lib.rt:108:7
 sub-result : tie.Need-sub-result
-sub-result c = ?
+sub-result c = omega (arith, power-fits (c .before .free-power .ensures))
 
--- src/lib.rt:108:5
 mul-result-2 : tie.Need-mul-result-2
 mul-result-2 c = search needs
 
--- src/lib.rt:108:5
 shared-slice-read-result-2 : tie.Need-shared-slice-read-result-2
 shared-slice-read-result-2 c = search needs
 
--- src/lib.rt:108:22
 mul-result-3 : tie.Need-mul-result-3
-mul-result-3 c = ?
+mul-result-3 c = omega (arith, power-fits (c .before .before .free-power .ensures))
 
--- src/lib.rt:108:18
 sub-result-2 : tie.Need-sub-result-2
-sub-result-2 c = ?
+sub-result-2 c = omega (arith, power-fits (c .before .before .free-power .ensures))
 
--- src/lib.rt:108:16
 mul-result-4 : tie.Need-mul-result-4
 mul-result-4 c = search needs
 
--- src/lib.rt:108:16
 shared-slice-read-result-3 : tie.Need-shared-slice-read-result-3
 shared-slice-read-result-3 c = search needs
 
--- src/lib.rt:108:5
 add-result : tie.Need-add-result
-add-result c = ?
+add-result c = let a = c .before .before .before .before .before .before .before .before .args in omega (arith, halves c, sumIn-le-all (a .m) (a .b) (entry (a .own .now)))
 
--- src/lib.rt:96:1
 returns-3 : tie.Need-returns-3
-returns-3 c = ?
+returns-3 c = halves c
 
 pub worked-out-spec : {M : Type 1} → statement M
 worked-out-spec =
