@@ -1,0 +1,4 @@
+pub mod Limits
+pub mod Record
+pub mod Sound
+pub mod Calls

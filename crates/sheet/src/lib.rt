@@ -1,0 +1,171 @@
+// The sheet: marks, an outside count and held seconds for each box, and the calls that open and change it. Every call takes any numbers
+// and any sheet, spoiled ones included, and answers by a number of 01's table.
+ghost use mathlib.Core.Path.{_≡_};
+ghost use mathlib.Core.Bool.{true, false};
+ghost use Prim.Native.Nat.{_≤_, _<_, _^_};
+ghost use Rattle.boxes.specs.Boxes.{allFree};
+ghost use Rattle.tables.specs.Tables.{touched};
+ghost use Rattle.sheet.specs.Limits.{mostMarks, entries, mostHeld, mostAmount, marksOk, amountOk};
+ghost use Rattle.sheet.specs.Record.{sheetOf, opened};
+ghost use Rattle.sheet.specs.Sound.{ClassSound, TimesSound};
+ghost use Rattle.sheet.specs.Calls.{openOf, standing, fitsMoved, changeNo, changeOf, receiveNo, receiveOf, withdrawNo, withdrawOf, ClassSize};
+
+mod numbers;
+mod soundness;
+
+use boxes;
+use tables;
+
+pub struct Sheet {
+    pub marks: usize,
+    pub outside: [u32; Sheet::ENTRIES],
+    pub held: [u32; Sheet::ENTRIES],
+}
+
+// The number of a call that opens or changes a sheet, and the sheet that is left.
+pub struct Answer {
+    pub number: u64,
+    pub sheet: Sheet,
+}
+
+// The number of a call that only reads, and what it tells.
+pub struct Value {
+    pub number: u64,
+    pub value: u64,
+}
+
+impl Sheet {
+    pub const MOST_MARKS: usize = 5;
+    pub const ENTRIES: usize = 243;
+    pub const MOST_HELD: u32 = 4_000_000_000;
+    pub const MOST_AMOUNT: u64 = 35_999;
+
+    // The sheet of an opened class of m marks.
+    fn opened(m: usize) -> Sheet
+        requires { ⌜ (1 ≤ m) × (m ≤ 5) ⌝ }
+        ensures { λ r. ⌜ r ≡ sheetOf entries (opened m) ⌝ }
+    {
+        let ones = [1u32; 32];
+        let mut outside = [0u32; Sheet::ENTRIES];
+        tables::fill(m, &ones, &mut outside);
+        Sheet {
+            marks: m,
+            outside,
+            held: [0u32; Sheet::ENTRIES],
+        }
+    }
+
+    pub fn open(marks: usize) -> Answer
+        ensures { λ r. ⌜ r ≡ openOf mostMarks entries marks ⌝ }
+    {
+        if numbers::marks_ok(marks) {
+            return Answer {
+                number: 0,
+                sheet: Sheet::opened(marks),
+            };
+        }
+        Answer {
+            number: 1,
+            sheet: Sheet::opened(1),
+        }
+    }
+
+    // Into the class: the outside counts fall by one.
+    pub fn enter(self, c: usize) -> Answer
+        ensures { λ r. ⌜ r ≡ changeOf mostMarks true self c ⌝ }
+    {
+        let m = self.marks;
+        let mut outside = self.outside;
+        let number = numbers::change_number(m, c, &outside, true);
+        if number != 0 {
+            return Answer { number, sheet: self };
+        }
+        tables::lower(m, c, 1, &mut outside);
+        let held = self.held;
+        let sheet = Sheet {
+            marks: m,
+            outside,
+            held,
+        };
+        Answer { number: 0, sheet }
+    }
+
+    // Out of the class: the outside counts rise by one.
+    pub fn leave(self, c: usize) -> Answer
+        ensures { λ r. ⌜ r ≡ changeOf mostMarks false self c ⌝ }
+    {
+        let m = self.marks;
+        let mut outside = self.outside;
+        let number = numbers::change_number(m, c, &outside, false);
+        if number != 0 {
+            return Answer { number, sheet: self };
+        }
+        tables::raise(m, c, 1, &mut outside);
+        let held = self.held;
+        let sheet = Sheet {
+            marks: m,
+            outside,
+            held,
+        };
+        Answer { number: 0, sheet }
+    }
+
+    // A receipt of d seconds.
+    pub fn receive(self, c: usize, d: u64) -> Answer
+        ensures { λ r. ⌜ r ≡ receiveOf mostMarks self c d ⌝ }
+    {
+        let m = self.marks;
+        let mut held = self.held;
+        let number = numbers::receive_number(m, c, d, &held);
+        if number != 0 {
+            return Answer { number, sheet: self };
+        }
+        tables::raise(m, c, d as u32, &mut held);
+        let outside = self.outside;
+        let sheet = Sheet {
+            marks: m,
+            outside,
+            held,
+        };
+        Answer { number: 0, sheet }
+    }
+
+    // A withdrawal of d seconds.
+    pub fn withdraw(self, c: usize, d: u64) -> Answer
+        ensures { λ r. ⌜ r ≡ withdrawOf mostMarks self c d ⌝ }
+    {
+        let m = self.marks;
+        let mut held = self.held;
+        let number = numbers::withdraw_number(m, c, d, &held);
+        if number != 0 {
+            return Answer { number, sheet: self };
+        }
+        tables::lower(m, c, d as u32, &mut held);
+        let outside = self.outside;
+        let sheet = Sheet {
+            marks: m,
+            outside,
+            held,
+        };
+        Answer { number: 0, sheet }
+    }
+
+    // How many combinations are in the class.
+    pub fn class_size(self) -> Value
+        ensures { λ r. ⌜ ClassSize mostMarks self r ⌝ }
+    {
+        let m = self.marks;
+        let outside = self.outside;
+        if !soundness::class_ready(m, &outside) {
+            return Value {
+                number: 7,
+                value: 0,
+            };
+        }
+        let all = outside[boxes::power3(m) - 1];
+        Value {
+            number: 0,
+            value: (boxes::power2(m) as u64) - (all as u64),
+        }
+    }
+}
