@@ -51,17 +51,21 @@ changed into s c = record {
 abbrev pub changeOf : ℕ → Bool → Sheet → ℕ → Answer
 changeOf most into s c = answered (changeNo most into (s .marks) (s .outside) c) s (changed into s c)
 
--- a receipt of d seconds: no touched entry may go above 4,000,000,000
+-- a receipt or a withdrawal of d seconds; `last` is the number given where a touched entry would not fit
+unfoldable pub amountNo : ℕ → ℕ → ℕ → ℕ → ℕ → Bool → ℕ
+amountNo most m c d last fits =
+    cond (not (marksOk most m)) 7
+    (cond (leb (2 ^ m) c) 2
+    (cond (not (amountOk d)) 4
+    (cond (not fits) last 0)))
+
+-- a receipt may take no touched entry above 4,000,000,000
 
 unfoldable pub fitsMore : ℕ → List ℕ → ℕ → Bool
 fitsMore d t b = leb (entry t b + d) mostHeld
 
-unfoldable pub receiveNo : ℕ → ℕ → List ℕ → ℕ → ℕ → ℕ
-receiveNo most m held c d =
-    cond (not (marksOk most m)) 7
-    (cond (leb (2 ^ m) c) 2
-    (cond (not (amountOk d)) 4
-    (cond (not (touched m c (fitsMore d held))) 8 0)))
+abbrev pub receiveNo : ℕ → ℕ → List ℕ → ℕ → ℕ → ℕ
+receiveNo most m held c d = amountNo most m c d 8 (touched m c (fitsMore d held))
 
 abbrev pub received : Sheet → ℕ → ℕ → Sheet
 received s c d = record { marks = s .marks; outside = s .outside; held = raised (s .marks) c d (s .held) }
@@ -69,17 +73,13 @@ received s c d = record { marks = s .marks; outside = s .outside; held = raised 
 abbrev pub receiveOf : ℕ → Sheet → ℕ → ℕ → Answer
 receiveOf most s c d = answered (receiveNo most (s .marks) (s .held) c d) s (received s c d)
 
--- a withdrawal of d seconds: no touched entry may go below 0
+-- a withdrawal may take no touched entry below 0
 
 unfoldable pub fitsLess : ℕ → List ℕ → ℕ → Bool
 fitsLess d t b = leb d (entry t b)
 
-unfoldable pub withdrawNo : ℕ → ℕ → List ℕ → ℕ → ℕ → ℕ
-withdrawNo most m held c d =
-    cond (not (marksOk most m)) 7
-    (cond (leb (2 ^ m) c) 2
-    (cond (not (amountOk d)) 4
-    (cond (not (touched m c (fitsLess d held))) 9 0)))
+abbrev pub withdrawNo : ℕ → ℕ → List ℕ → ℕ → ℕ → ℕ
+withdrawNo most m held c d = amountNo most m c d 9 (touched m c (fitsLess d held))
 
 abbrev pub withdrawn : Sheet → ℕ → ℕ → Sheet
 withdrawn s c d = record { marks = s .marks; outside = s .outside; held = lowered (s .marks) c d (s .held) }

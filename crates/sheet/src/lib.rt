@@ -3,10 +3,10 @@
 ghost use mathlib.Core.Path.{_≡_};
 ghost use mathlib.Core.Bool.{true, false};
 ghost use Prim.Native.Nat.{_≤_, _<_, _^_};
-ghost use Rattle.boxes.specs.Boxes.{allFree};
-ghost use Rattle.tables.specs.Tables.{touched};
+ghost use Rattle.boxes.specs.Boxes.{sumIn};
+ghost use Rattle.tables.specs.Tables.{entry, afresh};
 ghost use Rattle.sheet.specs.Limits.{mostMarks, entries, mostHeld, mostAmount, marksOk, amountOk};
-ghost use Rattle.sheet.specs.Record.{sheetOf, opened};
+ghost use Rattle.sheet.specs.Record.{sheetFrom, sheetOf, opened, Addable};
 ghost use Rattle.sheet.specs.Sound.{ClassSound, TimesSound};
 ghost use Rattle.sheet.specs.Calls.{openOf, standing, fitsMoved, changeNo, changeOf, receiveNo, receiveOf, withdrawNo, withdrawOf, ClassSize};
 
@@ -34,25 +34,44 @@ pub struct Value {
     pub value: u64,
 }
 
+// The table of the sums over boxes of what each combination has of its own.
+fn table(m: usize, own: &[u32]) -> [u32; Sheet::ENTRIES]
+    requires { ⌜ (m ≤ 5) × Addable m (now own) ⌝ }
+    ensures { λ r. ⌜ r ≡ afresh entries m (entry (now (own .entry))) ⌝ }
+{
+    let mut t = [0u32; Sheet::ENTRIES];
+    tables::fill(m, own, &mut t);
+    t
+}
+
 impl Sheet {
     pub const MOST_MARKS: usize = 5;
     pub const ENTRIES: usize = 243;
     pub const MOST_HELD: u32 = 4_000_000_000;
     pub const MOST_AMOUNT: u64 = 35_999;
 
-    // The sheet of an opened class of m marks.
-    fn opened(m: usize) -> Sheet
-        requires { ⌜ (1 ≤ m) × (m ≤ 5) ⌝ }
-        ensures { λ r. ⌜ r ≡ sheetOf entries (opened m) ⌝ }
+    // The sheet worked out afresh from what each combination adds to the outside counts, and the seconds that it holds.
+    pub fn afresh(m: usize, outs: &[u32], times: &[u32]) -> Sheet
+        requires { ⌜ (m ≤ 5) × Addable m (now outs) × Addable m (now times) ⌝ }
+        ensures { λ r. ⌜ r ≡ sheetFrom entries m (entry (now (outs .entry))) (entry (now (times .entry))) ⌝ }
     {
-        let ones = [1u32; 32];
-        let mut outside = [0u32; Sheet::ENTRIES];
-        tables::fill(m, &ones, &mut outside);
+        let outside = table(m, outs);
+        let held = table(m, times);
         Sheet {
             marks: m,
             outside,
-            held: [0u32; Sheet::ENTRIES],
+            held,
         }
+    }
+
+    // The sheet of an opened class of m marks.
+    pub fn opened(m: usize) -> Sheet
+        requires { ⌜ m ≤ 5 ⌝ }
+        ensures { λ r. ⌜ r ≡ sheetOf entries (opened m) ⌝ }
+    {
+        let ones = [1u32; 32];
+        let none = [0u32; 32];
+        Sheet::afresh(m, &ones, &none)
     }
 
     pub fn open(marks: usize) -> Answer

@@ -1,11 +1,12 @@
 -- Tables by their entries: two tables of one length with the same entries are one.
-use Prim.Native.Nat.{ℕ, zero, suc, _<_}
+use Prim.Native.Nat.{ℕ, zero, suc, _^_, _<_}
 use mathlib.Core.Path.{_≡_, refl, sym, _∙_, ap}
 use mathlib.Core.List.{List}
 use native.Mathlib.Omega.{arith}
 use lib.ListN.{length}
 use lib.Seq.{ext-getD}
-use Rattle.tables.specs.Tables.{tab, entry}
+use Rattle.boxes.proofs.Boxes.{sumIn-ext}
+use Rattle.tables.specs.Tables.{tab, entry, afresh}
 
 pub tab-length : (n : ℕ) (f : ℕ → ℕ) → length (tab n f) ≡ n
 unfolding tab
@@ -25,3 +26,6 @@ tab-of n f t e h =
 
 pub tab-ext : (n : ℕ) (f g : ℕ → ℕ) → ((b : ℕ) → b < n → f b ≡ g b) → tab n f ≡ tab n g
 tab-ext n f g h = tab-of n g (tab n f) (tab-length n f) (λ b l. tab-entry n f b l ∙ h b l)
+
+pub afresh-ext : (n m : ℕ) (f g : ℕ → ℕ) → ((c : ℕ) → c < 2 ^ m → f c ≡ g c) → afresh n m f ≡ afresh n m g
+afresh-ext n m f g h = tab-ext n _ _ (λ b l. sumIn-ext m b f g h)

@@ -1,32 +1,54 @@
+-- A refusal leaves the sheet; an accepted change moves the touched counts, which fit.
+use Prim.Native.Nat.{ℕ}
+use mathlib.Core.List.{List}
+use mathlib.Core.Bool.{true, false}
+use mathlib.Core.Path.{_≡_, sym, _∙_, ap}
+use native.Mathlib.Omega.{arith}
+use lib.ListN.{length}
 use borrow.Author.Needs.{needs}
+use Rattle.sheet.proofs.Answers.{refused, done}
+use Rattle.sheet.proofs.Tests.{Changes, changes, marks-most, boxes-fit, enter-fits}
+use Rattle.sheet.specs.Limits.{mostMarks}
 use Rattle.sheet.proofs.Sheet.enter.Statement.{statement}
 use Rattle.sheet.proofs.Sheet.enter.Tie as tie
-use Rattle.sheet.proofs.Sheet.enter.Reads as reads
-use Rattle.sheet.proofs.Sheet.enter.Lts as lts
-use Rattle.sheet.proofs.numbers.change_number.Reads as change-number-reads
-use Rattle.tables.proofs.lower.Reads as lower-reads
 
--- src/lib.rt:79:13
+long : (c : tie.Start) → length (c .args .self .outside) ≡ 243
+long c = search needs
+
+accepted : (c : tie.Else1) → let a = c .before .before .before .before .args in Changes mostMarks true (a .self .marks) (a .self .outside) (a .c)
+accepted c = changes _ _ _ _ _ (sym (c .before .change-number .ensures) ∙ c .if1 .left)
+
+slice-aggregate-change-number : tie.Need-slice-aggregate-change-number
+slice-aggregate-change-number c = search needs
+
 change-number-requires : tie.Need-change-number-requires
-change-number-requires c κs = search needs
+change-number-requires c κs = omega (arith, long (c .before .before))
 
--- src/lib.rt:81:13
 returns : tie.Need-returns
-returns c = ?
+returns c = refused _ _ _ _ (c .before .change-number .ensures) (c .if1 .taken)
 
--- src/lib.rt:83:32
 slice-aggregate-lower : tie.Need-slice-aggregate-lower
 slice-aggregate-lower c = search needs
 
--- src/lib.rt:83:9
 lower-requires : tie.Need-lower-requires
-lower-requires c κs = ?
+lower-requires c κs =
+    let w = accepted (c .before) in
+    let a = c .before .before .before .before .before .args in
+    (omega (arith, marks-most 5 _ (w .marks)), w .low, omega (arith, boxes-fit _ (w .marks), long (c .before .before .before .before .before)), λ b e. enter-fits (a .self .marks) (a .c) (a .self .outside) b e (w .fits))
 
--- src/lib.rt:74:5
 returns-2 : tie.Need-returns-2
-returns-2 c = ?
+returns-2 c =
+    let a = c .before .before .before .before .before .before .before .before .args in
+    ap (λ (t : List ℕ). record { number = 0; sheet = record { marks = a .self .marks; outside = t; held = a .self .held } }) (c .before .before .lower .ensures)
+    ∙ done _ (a .self) _ (sym (c .before .before .before .before .before .change-number .ensures) ∙ c .before .before .before .before .if1 .left)
 
 pub enter-spec : {M : Type 1} → statement M
 enter-spec =
     tie.close
-    (tie.spec change-number-requires returns slice-aggregate-lower lower-requires returns-2)
+    (tie.spec
+    slice-aggregate-change-number
+    change-number-requires
+    returns
+    slice-aggregate-lower
+    lower-requires
+    returns-2)

@@ -1,32 +1,54 @@
+-- A refusal leaves the sheet; an accepted change moves the touched counts, which fit.
+use Prim.Native.Nat.{ℕ}
+use mathlib.Core.List.{List}
+use mathlib.Core.Bool.{true, false}
+use mathlib.Core.Path.{_≡_, sym, _∙_, ap}
+use native.Mathlib.Omega.{arith}
+use lib.ListN.{length}
 use borrow.Author.Needs.{needs}
+use Rattle.sheet.proofs.Answers.{refused, done}
+use Rattle.sheet.proofs.Tests.{Changes, changes, marks-most, boxes-fit, leave-fits, size-fits}
+use Rattle.sheet.specs.Limits.{mostMarks}
 use Rattle.sheet.proofs.Sheet.leave.Statement.{statement}
 use Rattle.sheet.proofs.Sheet.leave.Tie as tie
-use Rattle.sheet.proofs.Sheet.leave.Reads as reads
-use Rattle.sheet.proofs.Sheet.leave.Lts as lts
-use Rattle.sheet.proofs.numbers.change_number.Reads as change-number-reads
-use Rattle.tables.proofs.raise.Reads as raise-reads
 
--- src/lib.rt:99:13
+long : (c : tie.Start) → length (c .args .self .outside) ≡ 243
+long c = search needs
+
+accepted : (c : tie.Else1) → let a = c .before .before .before .before .args in Changes mostMarks false (a .self .marks) (a .self .outside) (a .c)
+accepted c = changes _ _ _ _ _ (sym (c .before .change-number .ensures) ∙ c .if1 .left)
+
+slice-aggregate-change-number : tie.Need-slice-aggregate-change-number
+slice-aggregate-change-number c = search needs
+
 change-number-requires : tie.Need-change-number-requires
-change-number-requires c κs = search needs
+change-number-requires c κs = omega (arith, long (c .before .before))
 
--- src/lib.rt:101:13
 returns : tie.Need-returns
-returns c = ?
+returns c = refused _ _ _ _ (c .before .change-number .ensures) (c .if1 .taken)
 
--- src/lib.rt:103:32
 slice-aggregate-raise : tie.Need-slice-aggregate-raise
 slice-aggregate-raise c = search needs
 
--- src/lib.rt:103:9
 raise-requires : tie.Need-raise-requires
-raise-requires c κs = ?
+raise-requires c κs =
+    let w = accepted (c .before) in
+    let a = c .before .before .before .before .before .args in
+    (omega (arith, marks-most 5 _ (w .marks)), w .low, omega (arith, boxes-fit _ (w .marks), long (c .before .before .before .before .before)), λ b e. omega (arith, leave-fits (a .self .marks) (a .c) (a .self .outside) b e (w .fits), size-fits (a .self .marks) b (marks-most 5 _ (w .marks))))
 
--- src/lib.rt:94:5
 returns-2 : tie.Need-returns-2
-returns-2 c = ?
+returns-2 c =
+    let a = c .before .before .before .before .before .before .before .before .args in
+    ap (λ (t : List ℕ). record { number = 0; sheet = record { marks = a .self .marks; outside = t; held = a .self .held } }) (c .before .before .raise .ensures)
+    ∙ done _ (a .self) _ (sym (c .before .before .before .before .before .change-number .ensures) ∙ c .before .before .before .before .if1 .left)
 
 pub leave-spec : {M : Type 1} → statement M
 leave-spec =
     tie.close
-    (tie.spec change-number-requires returns slice-aggregate-raise raise-requires returns-2)
+    (tie.spec
+    slice-aggregate-change-number
+    change-number-requires
+    returns
+    slice-aggregate-raise
+    raise-requires
+    returns-2)

@@ -1,30 +1,25 @@
+use mathlib.Core.Path.{_≡_, sym, _∙_, ap}
 use borrow.Author.Needs.{needs}
+use Rattle.sheet.proofs.Answers.{open-done, open-refused}
+use Rattle.sheet.proofs.Tests.{marks-most}
+use Rattle.sheet.specs.declared.Sheet.{Sheet}
 use Rattle.sheet.proofs.Sheet.open.Statement.{statement}
 use Rattle.sheet.proofs.Sheet.open.Tie as tie
-use Rattle.sheet.proofs.Sheet.open.Reads as reads
-use Rattle.sheet.proofs.Sheet.open.Lts as lts
-use Rattle.sheet.proofs.Sheet.opened.Reads as opened-reads
-use Rattle.sheet.proofs.numbers.marks_ok.Reads as marks-ok-reads
 
--- src/lib.rt:61:12
 marks-ok-requires : tie.Need-marks-ok-requires
 marks-ok-requires c κs = search needs
 
--- src/lib.rt:64:24
 opened-requires : tie.Need-opened-requires
-opened-requires c κs = ?
+opened-requires c κs = marks-most 5 _ (sym (c .before .marks-ok .ensures) ∙ c .if1 .taken)
 
--- src/lib.rt:62:13
 returns : tie.Need-returns
-returns c = ?
+returns c = ap (λ (s : Sheet). record { number = 0; sheet = s }) (c .opened .ensures) ∙ open-done _ 243 _ (sym (c .before .before .marks-ok .ensures) ∙ c .before .if1 .taken)
 
--- src/lib.rt:69:20
 opened-requires-2 : tie.Need-opened-requires-2
 opened-requires-2 c κs = search needs
 
--- src/lib.rt:58:5
 returns-2 : tie.Need-returns-2
-returns-2 c = ?
+returns-2 c = ap (λ (s : Sheet). record { number = 1; sheet = s }) (c .opened2 .ensures) ∙ open-refused _ 243 _ (sym (c .before .before .marks-ok .ensures) ∙ c .before .if1 .left)
 
 pub open-spec : {M : Type 1} → statement M
 open-spec =

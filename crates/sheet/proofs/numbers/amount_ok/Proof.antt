@@ -1,15 +1,16 @@
+use native.Mathlib.Omega.{arith}
+use borrow.Author.Tests.{le-leb, lt-leb}
+use Rattle.sheet.specs.Limits.{amountOk}
 use Rattle.sheet.proofs.numbers.amount_ok.Statement.{statement}
 use Rattle.sheet.proofs.numbers.amount_ok.Tie as tie
-use Rattle.sheet.proofs.numbers.amount_ok.Reads as reads
-use Rattle.sheet.proofs.numbers.amount_ok.Lts as lts
 
--- src/numbers.rt:18:1
 returns : tie.Need-returns
-returns c = ?
+unfolding amountOk
+returns c = rw (le-leb 1 (c .before .args .d) (omega arith))
 
--- src/numbers.rt:18:1
 returns-2 : tie.Need-returns-2
-returns-2 c = ?
+unfolding amountOk
+returns-2 c = rw (lt-leb 1 (c .before .args .d) (omega arith))
 
 pub amount-ok-spec : {M : Type 1} → statement M
 amount-ok-spec = tie.close (tie.spec returns returns-2)

@@ -1,60 +1,73 @@
+-- Each return is a row of the order of tests.
+use Prim.Native.Nat.{ℕ, _^_, _≤_, _<_}
+use mathlib.Core.Bool.{Bool, true, false}
+use mathlib.Core.Path.{_≡_, sym, _∙_, refl, ap, subst}
+use native.Mathlib.Omega.{arith}
+use lib.Dec.{eqb}
+use borrow.Author.Tests.{not-true, not-false}
 use borrow.Author.Needs.{needs}
+use Rattle.sheet.proofs.Tests.{marks-most, boxes-fit, change-7, change-2, change-own, change-3, change-count, change-0}
+use Rattle.sheet.specs.Calls.{standing}
+use Rattle.sheet.specs.Limits.{marksOk, mostMarks}
+use Rattle.tables.specs.Tables.{entry, own}
 use Rattle.sheet.proofs.numbers.change_number.Statement.{statement}
 use Rattle.sheet.proofs.numbers.change_number.Tie as tie
-use Rattle.sheet.proofs.numbers.change_number.Reads as reads
-use Rattle.sheet.proofs.numbers.change_number.Lts as lts
-use Rattle.boxes.proofs.power2.Reads as power2-reads
-use Rattle.boxes.proofs.single.Reads as single-reads
-use Rattle.sheet.proofs.numbers.fits_moved.Reads as fits-moved-reads
-use Rattle.sheet.proofs.numbers.marks_ok.Reads as marks-ok-reads
 
--- src/numbers.rt:38:9
+marks : (c : tie.Else1) → marksOk mostMarks (c .before .before .before .args .m) ≡ true
+marks c = sym (c .before .marks-ok .ensures) ∙ not-false _ (c .if1 .left)
+
+low : (c : tie.Else2) → c .before .before .before .before .before .args .c < 2 ^ c .before .before .before .before .before .args .m
+low c = omega (arith, c .before .power2 .ensures .0)
+
+own-is : (c : tie.After-shared-slice-known2)
+    → let a = c .before .before .before .before .before .before .before .args in entry (a .t .now) (c .before .single .result) ≡ own (a .m) (a .t .now) (a .c)
+own-is c = ap (entry (c .before .before .before .before .before .before .before .args .t .now)) (c .before .single .ensures .0)
+
+one : (c : tie.Else3) → let a = c .before .before .before .before .before .before .before .before .args in own (a .m) (a .t .now) (a .c) ≤ 1
+one c = omega (arith, own-is (c .before))
+
+stood : (c : tie.After-stands)
+    → let a = c .before .before .before .before .before .before .before .before .before .args in eqb (own (a .m) (a .t .now) (a .c)) (standing (a .into)) ≡ c .stands .result
+stood c = ap (λ (x : ℕ). eqb x (standing (c .before .before .before .before .before .before .before .before .before .args .into))) (sym (own-is (c .before .before))) ∙ sym (c .stands .ensures)
+
 marks-ok-requires : tie.Need-marks-ok-requires
 marks-ok-requires c κs = search needs
 
--- src/numbers.rt:39:9
 returns : tie.Need-returns
-returns c = ?
+returns c = sym (change-7 _ _ _ _ _ (sym (c .before .marks-ok .ensures) ∙ not-true _ (c .if1 .taken)))
 
--- src/numbers.rt:41:8
 power2-requires : tie.Need-power2-requires
-power2-requires c κs = ?
+power2-requires c κs = omega (arith, marks-most 5 _ (marks c))
 
--- src/numbers.rt:42:9
 returns-2 : tie.Need-returns-2
-returns-2 c = ?
+returns-2 c = sym (change-2 _ _ _ _ _ (marks (c .before .before)) (omega (arith, c .before .power2 .ensures .0)))
 
--- src/numbers.rt:44:17
 single-requires : tie.Need-single-requires
-single-requires c κs = ?
+single-requires c κs = omega (arith, marks-most 5 _ (marks (c .before .before)))
 
--- src/numbers.rt:44:15
 mul-own : tie.Need-mul-own
-mul-own c = ?
+mul-own c = omega (arith, boxes-fit _ (marks (c .before .before .before)), c .single .ensures .1)
 
--- src/numbers.rt:44:15
-element-copy-out-own : tie.Need-element-copy-out-own
-element-copy-out-own c = ?
+shared-slice-read-own : tie.Need-shared-slice-read-own
+shared-slice-read-own c = omega (arith, boxes-fit _ (marks (c .before .before .before .before)), c .before .single .ensures .1)
 
--- src/numbers.rt:46:9
 returns-3 : tie.Need-returns-3
-returns-3 c = ?
+returns-3 c = sym (change-own _ _ _ _ _ (marks (c .before .before .before .before .before)) (low (c .before .before .before)) (omega (arith, own-is (c .before))))
 
--- src/numbers.rt:50:9
+stands-requires : tie.Need-stands-requires
+stands-requires c κs = search needs
+
 returns-4 : tie.Need-returns-4
-returns-4 c = ?
+returns-4 c = sym (change-3 _ _ _ _ _ (marks (c .before .before .before .before .before .before .before)) (low (c .before .before .before .before .before)) (one (c .before .before)) (stood (c .before) ∙ c .if4 .taken))
 
--- src/numbers.rt:52:9
 fits-moved-requires : tie.Need-fits-moved-requires
-fits-moved-requires c κs = ?
+fits-moved-requires c κs = (marks-most 5 _ (marks (c .before .before .before .before .before .before .before)), low (c .before .before .before .before .before), c .before .before .before .before .before .before .before .before .before .before .pre)
 
--- src/numbers.rt:53:9
 returns-5 : tie.Need-returns-5
-returns-5 c = ?
+returns-5 c = sym (change-count _ _ _ _ _ (marks (c .before .before .before .before .before .before .before .before .before)) (low (c .before .before .before .before .before .before .before)) (one (c .before .before .before .before)) (stood (c .before .before .before) ∙ c .before .before .if4 .left) (sym (c .before .fits-moved .ensures) ∙ not-true _ (c .if5 .taken)))
 
--- src/numbers.rt:35:1
 returns-6 : tie.Need-returns-6
-returns-6 c = ?
+returns-6 c = sym (change-0 _ _ _ _ _ (marks (c .before .before .before .before .before .before .before .before .before)) (low (c .before .before .before .before .before .before .before)) (one (c .before .before .before .before)) (stood (c .before .before .before) ∙ c .before .before .if4 .left) (sym (c .before .fits-moved .ensures) ∙ not-false _ (c .if5 .left)))
 
 pub change-number-spec : {M : Type 1} → statement M
 change-number-spec =
@@ -66,8 +79,9 @@ change-number-spec =
     returns-2
     single-requires
     mul-own
-    element-copy-out-own
+    shared-slice-read-own
     returns-3
+    stands-requires
     returns-4
     fits-moved-requires
     returns-5

@@ -1,15 +1,16 @@
+use native.Mathlib.Omega.{arith}
+use borrow.Author.Tests.{le-leb, lt-leb}
+use Rattle.sheet.specs.Limits.{marksOk}
 use Rattle.sheet.proofs.numbers.marks_ok.Statement.{statement}
 use Rattle.sheet.proofs.numbers.marks_ok.Tie as tie
-use Rattle.sheet.proofs.numbers.marks_ok.Reads as reads
-use Rattle.sheet.proofs.numbers.marks_ok.Lts as lts
 
--- src/numbers.rt:11:1
 returns : tie.Need-returns
-returns c = ?
+unfolding marksOk
+returns c = rw (le-leb 1 (c .before .args .m) (omega arith))
 
--- src/numbers.rt:11:1
 returns-2 : tie.Need-returns-2
-returns-2 c = ?
+unfolding marksOk
+returns-2 c = rw (lt-leb 1 (c .before .args .m) (omega arith))
 
 pub marks-ok-spec : {M : Type 1} → statement M
 marks-ok-spec = tie.close (tie.spec returns returns-2)

@@ -1,74 +1,60 @@
+-- The shared tests decide, or else the touched entries do.
+use Prim.Native.Nat.{_^_, _≤_}
+use mathlib.Core.Path.{_≡_, sym, _∙_}
+use native.Mathlib.Omega.{arith}
+use borrow.Author.Tests.{not-true, not-false}
 use borrow.Author.Needs.{needs}
+use Rattle.sheet.proofs.Tests.{Moves, marks-most, boxes-fit, amount-most, shared-passed, shared-refused, amount-last, amount-0, receive-bounds}
+use Rattle.sheet.specs.Calls.{fitsMore}
+use Rattle.sheet.specs.Limits.{mostMarks}
+use Rattle.tables.proofs.Touched.{touched-ext}
+use Rattle.tables.specs.Tables.{touched}
 use Rattle.sheet.proofs.numbers.receive_number.Statement.{statement}
 use Rattle.sheet.proofs.numbers.receive_number.Tie as tie
-use Rattle.sheet.proofs.numbers.receive_number.Reads as reads
-use Rattle.sheet.proofs.numbers.receive_number.Lts as lts
-use Rattle.boxes.proofs.power2.Reads as power2-reads
-use Rattle.sheet.proofs.numbers.amount_ok.Reads as amount-ok-reads
-use Rattle.sheet.proofs.numbers.marks_ok.Reads as marks-ok-reads
-use Rattle.tables.proofs.between.Reads as between-reads
 
--- src/numbers.rt:61:9
-marks-ok-requires : tie.Need-marks-ok-requires
-marks-ok-requires c κs = search needs
+passed : (c : tie.Else1) → let a = c .before .before .before .args in Moves mostMarks (a .m) (a .c) (a .d)
+passed c = shared-passed _ _ _ _ (sym (c .before .amount-number .ensures) ∙ c .if1 .left)
 
--- src/numbers.rt:62:9
+judged : (c : tie.After-between) → let a = c .before .before .before .before .args in touched (a .m) (a .c) (fitsMore (a .d) (a .t .now)) ≡ c .between .result
+judged c =
+    let a = c .before .before .before .before .args in
+    sym (c .between .ensures ∙ touched-ext (a .m) (a .c) _ _ (λ b e. receive-bounds (a .m) (a .d) (a .t .now) b (amount-most _ (passed (c .before) .amount))))
+
+amount-number-requires : tie.Need-amount-number-requires
+amount-number-requires c κs = search needs
+
 returns : tie.Need-returns
-returns c = ?
+returns c = c .before .amount-number .ensures ∙ shared-refused _ _ _ _ 8 _ (λ z. c .if1 .taken (c .before .amount-number .ensures ∙ z))
 
--- src/numbers.rt:64:8
-power2-requires : tie.Need-power2-requires
-power2-requires c κs = ?
+cast-most : tie.Need-cast-most
+cast-most c = search needs
 
--- src/numbers.rt:65:9
-returns-2 : tie.Need-returns-2
-returns-2 c = ?
-
--- src/numbers.rt:67:9
-amount-ok-requires : tie.Need-amount-ok-requires
-amount-ok-requires c κs = search needs
-
--- src/numbers.rt:68:9
-returns-3 : tie.Need-returns-3
-returns-3 c = ?
-
--- src/numbers.rt:70:37
-cast-between : tie.Need-cast-between
-cast-between c = search needs
-
--- src/numbers.rt:70:37
 sub-between : tie.Need-sub-between
-sub-between c = ?
+sub-between c = omega (arith, amount-most _ (passed c .amount))
 
--- src/numbers.rt:70:37
 add-between : tie.Need-add-between
-add-between c = search needs
+add-between c = omega arith
 
--- src/numbers.rt:70:9
 between-requires : tie.Need-between-requires
-between-requires c κs = ?
+between-requires c κs =
+    let p = passed c in
+    (omega (arith, marks-most 5 _ (p .marks)), p .low, omega (arith, boxes-fit _ (p .marks), c .before .before .before .pre), omega arith, omega arith)
 
--- src/numbers.rt:71:9
-returns-4 : tie.Need-returns-4
-returns-4 c = ?
+returns-2 : tie.Need-returns-2
+returns-2 c = let p = passed (c .before .before) in sym (amount-last _ _ _ _ 8 _ (p .marks) (p .low) (p .amount) (judged (c .before) ∙ not-true _ (c .if2 .taken)))
 
--- src/numbers.rt:58:1
-returns-5 : tie.Need-returns-5
-returns-5 c = ?
+returns-3 : tie.Need-returns-3
+returns-3 c = let p = passed (c .before .before) in sym (amount-0 _ _ _ _ 8 _ (p .marks) (p .low) (p .amount) (judged (c .before) ∙ not-false _ (c .if2 .left)))
 
 pub receive-number-spec : {M : Type 1} → statement M
 receive-number-spec =
     tie.close
     (tie.spec
-    marks-ok-requires
+    amount-number-requires
     returns
-    power2-requires
-    returns-2
-    amount-ok-requires
-    returns-3
-    cast-between
+    cast-most
     sub-between
     add-between
     between-requires
-    returns-4
-    returns-5)
+    returns-2
+    returns-3)

@@ -1,59 +1,42 @@
+-- The shared tests decide, or else the touched entries do.
+use Prim.Native.Nat.{_^_, _≤_}
+use mathlib.Core.Path.{_≡_, sym, _∙_}
+use native.Mathlib.Omega.{arith}
+use borrow.Author.Tests.{not-true, not-false}
 use borrow.Author.Needs.{needs}
+use Rattle.sheet.proofs.Tests.{Moves, marks-most, boxes-fit,  shared-passed, shared-refused, amount-last, amount-0, withdraw-bounds}
+use Rattle.sheet.specs.Calls.{fitsLess}
+use Rattle.sheet.specs.Limits.{mostMarks}
+use Rattle.tables.proofs.Touched.{touched-ext}
+use Rattle.tables.specs.Tables.{touched}
 use Rattle.sheet.proofs.numbers.withdraw_number.Statement.{statement}
 use Rattle.sheet.proofs.numbers.withdraw_number.Tie as tie
-use Rattle.sheet.proofs.numbers.withdraw_number.Reads as reads
-use Rattle.sheet.proofs.numbers.withdraw_number.Lts as lts
-use Rattle.boxes.proofs.power2.Reads as power2-reads
-use Rattle.sheet.proofs.numbers.amount_ok.Reads as amount-ok-reads
-use Rattle.sheet.proofs.numbers.marks_ok.Reads as marks-ok-reads
-use Rattle.tables.proofs.between.Reads as between-reads
 
--- src/numbers.rt:79:9
-marks-ok-requires : tie.Need-marks-ok-requires
-marks-ok-requires c κs = search needs
+passed : (c : tie.Else1) → let a = c .before .before .before .args in Moves mostMarks (a .m) (a .c) (a .d)
+passed c = shared-passed _ _ _ _ (sym (c .before .amount-number .ensures) ∙ c .if1 .left)
 
--- src/numbers.rt:80:9
+judged : (c : tie.After-between) → let a = c .before .before .before .before .args in touched (a .m) (a .c) (fitsLess (a .d) (a .t .now)) ≡ c .between .result
+judged c =
+    let a = c .before .before .before .before .args in
+    sym (c .between .ensures ∙ touched-ext (a .m) (a .c) _ _ (λ b e. withdraw-bounds (a .m) (a .d) (a .t .now) b (c .before .before .before .shared-slice-known .given b .fits)))
+
+amount-number-requires : tie.Need-amount-number-requires
+amount-number-requires c κs = search needs
+
 returns : tie.Need-returns
-returns c = ?
+returns c = c .before .amount-number .ensures ∙ shared-refused _ _ _ _ 9 _ (λ z. c .if1 .taken (c .before .amount-number .ensures ∙ z))
 
--- src/numbers.rt:82:8
-power2-requires : tie.Need-power2-requires
-power2-requires c κs = ?
-
--- src/numbers.rt:83:9
-returns-2 : tie.Need-returns-2
-returns-2 c = ?
-
--- src/numbers.rt:85:9
-amount-ok-requires : tie.Need-amount-ok-requires
-amount-ok-requires c κs = search needs
-
--- src/numbers.rt:86:9
-returns-3 : tie.Need-returns-3
-returns-3 c = ?
-
--- src/numbers.rt:88:9
 between-requires : tie.Need-between-requires
-between-requires c κs = ?
+between-requires c κs =
+    let p = passed c in
+    (omega (arith, marks-most 5 _ (p .marks)), p .low, omega (arith, boxes-fit _ (p .marks), c .before .before .before .pre), omega arith, omega arith)
 
--- src/numbers.rt:89:9
-returns-4 : tie.Need-returns-4
-returns-4 c = ?
+returns-2 : tie.Need-returns-2
+returns-2 c = let p = passed (c .before .before) in sym (amount-last _ _ _ _ 9 _ (p .marks) (p .low) (p .amount) (judged (c .before) ∙ not-true _ (c .if2 .taken)))
 
--- src/numbers.rt:76:1
-returns-5 : tie.Need-returns-5
-returns-5 c = ?
+returns-3 : tie.Need-returns-3
+returns-3 c = let p = passed (c .before .before) in sym (amount-0 _ _ _ _ 9 _ (p .marks) (p .low) (p .amount) (judged (c .before) ∙ not-false _ (c .if2 .left)))
 
 pub withdraw-number-spec : {M : Type 1} → statement M
 withdraw-number-spec =
-    tie.close
-    (tie.spec
-    marks-ok-requires
-    returns
-    power2-requires
-    returns-2
-    amount-ok-requires
-    returns-3
-    between-requires
-    returns-4
-    returns-5)
+    tie.close (tie.spec amount-number-requires returns between-requires returns-2 returns-3)
