@@ -3,6 +3,7 @@ use Prim.Native.Nat.{ℕ, zero, suc, _*_, _+_, _<_, _≤_}
 use mathlib.Core.Bool.{Bool, true, false, _&&_, true≢false}
 use mathlib.Core.Path.{_≡_, refl, sym, _∙_}
 use native.Mathlib.Omega.{arith}
+use Rattle.boxes.specs.Decides.{Decides}
 use lib.Dec.{eqb, leb, ltb}
 use borrow.Author.Tests.{ltb-true, ltb-false, leb-true, le-leb, lt-leb, eqb-true, eqb-false, eq-eqb, ne-eqb}
 
@@ -13,6 +14,16 @@ if false yes-then no-then = no-then refl
 -- no test has both outcomes
 pub clash : {P : Type 0} {t : Bool} → t ≡ true → t ≡ false → P
 clash {P} {t} y n = absurd (true≢false (sym y ∙ n))
+
+-- a test that decides a statement
+pub denied : {P : Type 0} {t : Bool} → Decides t P → t ≡ false → P → ⊥
+denied d e p = clash (d .sure p) e
+
+pub decided-yes : {P : Type 0} {t : Bool} → t ≡ true → P → Decides t P
+decided-yes e p = record { yes = λ w. p; sure = λ w. e }
+
+pub decided-no : {P : Type 0} {t : Bool} → t ≡ false → (P → ⊥) → Decides t P
+decided-no e n = record { yes = λ w. clash w e; sure = λ p. absurd (n p) }
 
 -- a is below b, or b at most a
 pub below-or : {P : Type 0} (a b : ℕ) → (a < b → P) → (b ≤ a → P) → P

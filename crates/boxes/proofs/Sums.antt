@@ -44,6 +44,11 @@ unfolding sum
 sum-mul zero f x = sym (zero-mul x)
 sum-mul (suc n) f x = omega (arith, sum-mul n f x, add-mul (sum n f) (f n) x)
 
+pub sum-ones : (n : ℕ) → sum n (λ c. 1) ≡ n
+unfolding sum
+sum-ones zero = refl
+sum-ones (suc n) = omega (arith, sum-ones n)
+
 -- g is f but for d more at k
 pub sum-change : (n : ℕ) (f g : ℕ → ℕ) (k d : ℕ) → k < n → ((c : ℕ) → c < n → (c ≡ k → ⊥) → g c ≡ f c) → g k ≡ f k + d → sum n g ≡ sum n f + d
 unfolding sum

@@ -1,13 +1,13 @@
 -- The lists that an opened sheet is worked out from: the same number for each combination.
 use Prim.Native.Nat.{ℕ, _^_, _<_, _≤_}
-use mathlib.Core.Path.{_≡_, refl, sym, _∙_, ap₂}
+use mathlib.Core.Path.{_≡_, ap₂}
 use mathlib.Core.List.{List}
 use native.Mathlib.Nat.{pow-le-pow-right, one-le-pow}
 use native.Mathlib.Omega.{arith}
-use lib.ListN.{length, replicate, getD-replicate, length-replicate}
-use Rattle.boxes.specs.Boxes.{sumIn, allFree}
+use lib.ListN.{replicate, getD-replicate, length-replicate}
+use Rattle.boxes.specs.Boxes.{allFree}
 use Rattle.boxes.proofs.Boxes.{sumIn-mono, sumIn-count}
-use Rattle.tables.specs.Tables.{entry, afresh}
+use Rattle.tables.specs.Tables.{entry}
 use Rattle.tables.proofs.Entries.{afresh-ext}
 use Rattle.sheet.proofs.Tests.{size-fits}
 use Rattle.sheet.specs.declared.Sheet.{Sheet}

@@ -1,8 +1,7 @@
 -- The calls that open and change a sheet: the number of 01's table, by its order of tests read top down, and the sheet that is left.
 -- Largest marks and a table's length are parameters.
 use Prim.Native.Nat.{ℕ, _+_, _-_, _^_}
-use mathlib.Core.Path.{_≡_}
-use mathlib.Core.Bool.{Bool, true, false, not, cond, _&&_}
+use mathlib.Core.Bool.{Bool, not, cond, _&&_}
 use mathlib.Core.List.{List}
 use lib.Dec.{eqb, leb, ltb}
 use Rattle.boxes.specs.Boxes.{freeCount}
@@ -89,5 +88,5 @@ withdrawOf most s c d = answered (withdrawNo most (s .marks) (s .held) c d) s (w
 
 -- class size: 7 as for the list, else the number of combinations in the class that the counts tell
 pub data ClassSize (most : ℕ) (s : Sheet) : Value → Type 0 where
-  spoiled : (ClassReady most s → ⊥) → ClassSize most s (record { number = 7; value = 0 })
-  told : ClassReady most s → ClassSize most s (record { number = 0; value = sizeOf (s .marks) (classOf (s .marks) (s .outside)) })
+  spoiled : (ClassReady most (s .marks) (s .outside) → ⊥) → ClassSize most s (record { number = 7; value = 0 })
+  told : ClassReady most (s .marks) (s .outside) → ClassSize most s (record { number = 0; value = sizeOf (s .marks) (classOf (s .marks) (s .outside)) })

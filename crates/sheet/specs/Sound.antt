@@ -29,15 +29,16 @@ classOf m t c = ltb c (2 ^ m) && eqb (own m t c) 0
 abbrev pub recordOf : Sheet → Record
 recordOf s = record { marks = s .marks; class = classOf (s .marks) (s .outside); times = own (s .marks) (s .held) }
 
--- fit for a call that reads the class: 1 to `most` marks, and a sound class table; fit for one that reads the times as well
-pub record ClassReady (most : ℕ) (s : Sheet) : Type 0 where
-  pub marks : marksOk most (s .marks) ≡ true
-  pub class : ClassSound (s .marks) (s .outside)
+-- fit for a call that reads the class: 1 to `most` marks, and a sound class table
+pub record ClassReady (most m : ℕ) (outside : List ℕ) : Type 0 where
+  pub marks : marksOk most m ≡ true
+  pub class : ClassSound m outside
 
-pub record Ready (most : ℕ) (s : Sheet) : Type 0 where
-  pub marks : marksOk most (s .marks) ≡ true
-  pub class : ClassSound (s .marks) (s .outside)
-  pub times : TimesSound (s .marks) (s .held)
+-- fit for a call that reads the times as well
+pub record Ready (most m : ℕ) (outside held : List ℕ) : Type 0 where
+  pub marks : marksOk most m ≡ true
+  pub class : ClassSound m outside
+  pub times : TimesSound m held
 
 -- how many combinations are in the class
 abbrev pub sizeOf : ℕ → (ℕ → Bool) → ℕ

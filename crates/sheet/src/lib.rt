@@ -2,16 +2,14 @@
 // and any sheet, spoiled ones included, and answers by a number of 01's table.
 ghost use mathlib.Core.Path.{_≡_};
 ghost use mathlib.Core.Bool.{true, false};
-ghost use Prim.Native.Nat.{_≤_, _<_, _^_};
-ghost use Rattle.boxes.specs.Boxes.{sumIn};
+ghost use Prim.Native.Nat.{_≤_};
 ghost use Rattle.tables.specs.Tables.{entry, afresh};
-ghost use Rattle.sheet.specs.Limits.{mostMarks, entries, mostHeld, mostAmount, marksOk, amountOk};
+ghost use Rattle.sheet.specs.Limits.{mostMarks, entries};
 ghost use Rattle.sheet.specs.Record.{sheetFrom, sheetOf, opened, Addable};
-ghost use Rattle.sheet.specs.Sound.{ClassSound, TimesSound};
-ghost use Rattle.sheet.specs.Calls.{openOf, standing, fitsMoved, changeNo, changeOf, receiveNo, receiveOf, withdrawNo, withdrawOf, ClassSize};
+ghost use Rattle.sheet.specs.Calls.{openOf, changeOf, receiveOf, withdrawOf, ClassSize};
 
 mod numbers;
-mod soundness;
+pub mod soundness;
 
 use boxes;
 use tables;
@@ -46,8 +44,11 @@ fn table(m: usize, own: &[u32]) -> [u32; Sheet::ENTRIES]
 
 impl Sheet {
     pub const MOST_MARKS: usize = 5;
+
     pub const ENTRIES: usize = 243;
+
     pub const MOST_HELD: u32 = 4_000_000_000;
+
     pub const MOST_AMOUNT: u64 = 35_999;
 
     // The sheet worked out afresh from what each combination adds to the outside counts, and the seconds that it holds.
@@ -97,7 +98,10 @@ impl Sheet {
         let mut outside = self.outside;
         let number = numbers::change_number(m, c, &outside, true);
         if number != 0 {
-            return Answer { number, sheet: self };
+            return Answer {
+                number,
+                sheet: self,
+            };
         }
         tables::lower(m, c, 1, &mut outside);
         let held = self.held;
@@ -117,7 +121,10 @@ impl Sheet {
         let mut outside = self.outside;
         let number = numbers::change_number(m, c, &outside, false);
         if number != 0 {
-            return Answer { number, sheet: self };
+            return Answer {
+                number,
+                sheet: self,
+            };
         }
         tables::raise(m, c, 1, &mut outside);
         let held = self.held;
@@ -137,7 +144,10 @@ impl Sheet {
         let mut held = self.held;
         let number = numbers::receive_number(m, c, d, &held);
         if number != 0 {
-            return Answer { number, sheet: self };
+            return Answer {
+                number,
+                sheet: self,
+            };
         }
         tables::raise(m, c, d as u32, &mut held);
         let outside = self.outside;
@@ -157,7 +167,10 @@ impl Sheet {
         let mut held = self.held;
         let number = numbers::withdraw_number(m, c, d, &held);
         if number != 0 {
-            return Answer { number, sheet: self };
+            return Answer {
+                number,
+                sheet: self,
+            };
         }
         tables::lower(m, c, d as u32, &mut held);
         let outside = self.outside;

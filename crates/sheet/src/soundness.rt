@@ -1,18 +1,17 @@
 // Whether a sheet's tables are sound.
-ghost use mathlib.Core.Path.{_≡_};
 ghost use mathlib.Core.Bool.{true};
 ghost use Prim.Native.Nat.{ℕ, _≤_, _<_, _^_};
 ghost use lib.ListN.{length};
+ghost use Rattle.boxes.specs.Decides.{Decides};
 ghost use Rattle.tables.specs.Tables.{own};
-ghost use Rattle.sheet.specs.Limits.{mostMarks, entries, marksOk};
-ghost use Rattle.sheet.specs.Sound.{ClassSound, TimesSound};
-
+ghost use Rattle.sheet.specs.Limits.{mostMarks, entries};
+ghost use Rattle.sheet.specs.Sound.{ClassSound, TimesSound, ClassReady, Ready};
 use crate::Sheet;
 
 // Whether each combination's own count is 0 or 1.
 fn ones(m: usize, t: &[u32]) -> bool
     requires { ⌜ (m ≤ 5) × (entries ≤ length (now t)) ⌝ }
-    ensures { λ r. ⌜ (r ≡ true → (c : ℕ) → c < 2 ^ m → own m (now (t .entry)) c ≤ 1) × (((c : ℕ) → c < 2 ^ m → own m (now (t .entry)) c ≤ 1) → r ≡ true) ⌝ }
+    ensures { λ r. ⌜ Decides r ((c : ℕ) → c < 2 ^ m → own m (now (t .entry)) c ≤ 1) ⌝ }
 {
     let n = boxes::power2(m);
     for c in 0..n {
@@ -27,7 +26,7 @@ fn ones(m: usize, t: &[u32]) -> bool
 // Whether the class table is sound.
 pub fn class_sound(m: usize, t: &[u32]) -> bool
     requires { ⌜ (m ≤ 5) × (entries ≤ length (now t)) ⌝ }
-    ensures { λ r. ⌜ (r ≡ true → ClassSound m (now (t .entry))) × (ClassSound m (now (t .entry)) → r ≡ true) ⌝ }
+    ensures { λ r. ⌜ Decides r (ClassSound m (now (t .entry))) ⌝ }
 {
     ones(m, t) && tables::sums(m, t)
 }
@@ -35,7 +34,7 @@ pub fn class_sound(m: usize, t: &[u32]) -> bool
 // Whether the time table is sound.
 pub fn times_sound(m: usize, t: &[u32]) -> bool
     requires { ⌜ (m ≤ 5) × (entries ≤ length (now t)) ⌝ }
-    ensures { λ r. ⌜ (r ≡ true → TimesSound m (now (t .entry))) × (TimesSound m (now (t .entry)) → r ≡ true) ⌝ }
+    ensures { λ r. ⌜ Decides r (TimesSound m (now (t .entry))) ⌝ }
 {
     let b = boxes::power3(m) - 1;
     t[b] <= Sheet::MOST_HELD && tables::sums(m, t)
@@ -44,7 +43,15 @@ pub fn times_sound(m: usize, t: &[u32]) -> bool
 // Whether a call that reads the class can be answered: m is right, and the class table is sound.
 pub fn class_ready(m: usize, t: &[u32]) -> bool
     requires { ⌜ entries ≤ length (now t) ⌝ }
-    ensures { λ r. ⌜ (r ≡ true → (marksOk mostMarks m ≡ true) × ClassSound m (now (t .entry))) × ((marksOk mostMarks m ≡ true) × ClassSound m (now (t .entry)) → r ≡ true) ⌝ }
+    ensures { λ r. ⌜ Decides r (ClassReady mostMarks m (now (t .entry))) ⌝ }
 {
     crate::numbers::marks_ok(m) && class_sound(m, t)
+}
+
+// Whether a call that reads the class and the times can be answered.
+pub fn ready(m: usize, outside: &[u32], held: &[u32]) -> bool
+    requires { ⌜ (entries ≤ length (now outside)) × (entries ≤ length (now held)) ⌝ }
+    ensures { λ r. ⌜ Decides r (Ready mostMarks m (now (outside .entry)) (now (held .entry))) ⌝ }
+{
+    class_ready(m, outside) && times_sound(m, held)
 }

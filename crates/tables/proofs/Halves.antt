@@ -10,7 +10,7 @@ use Rattle.boxes.specs.Boxes.{sumIn, single, lowest, freeMarks, FreePower, none
 use Rattle.boxes.proofs.Boxes.{sumIn-halves, free-le}
 use Rattle.tables.specs.Halving.{Halved, Halving}
 use Rattle.tables.specs.Tables.{entry, own, Sums}
-use Rattle.boxes.proofs.Cases.{clash}
+use Rattle.boxes.proofs.Cases.{denied}
 use Rattle.boxes.proofs.Choices.{single-lowest, sumIn-single, lowest-lt}
 
 pub no-power : {m b p : ℕ} → FreePower m b p → p ≡ 0 → freeMarks m b ≡ 0
@@ -64,7 +64,7 @@ abbrev pub Passed : ℕ → List ℕ → ℕ → Type 0
 Passed m t b = (p : ℕ) × FreePower m b p × Halved (entry t) b p
 
 pub passed : {m b : ℕ} (t : List ℕ) {r : Bool} → Halving m b (entry t) r → r ≡ true → Passed m t b
-passed t h e = (h .power, h .free, h .yes e)
+passed t h e = (h .power, h .free, h .told .yes e)
 
 pub all-passed : {m : ℕ} (t : List ℕ) → ((b : ℕ) → b < 3 ^ m → Passed m t b) → Sums m t
 all-passed {m} t h = sums-of-halves m (entry t) (own m t) (λ c l. refl) h
@@ -75,4 +75,4 @@ sums-halved {m} {b} {p} t s l w q =
     omega (arith, s b l, s (b - p) (omega arith), s (b - p * 2) (omega arith), halved-sums (own m t) w q)
 
 pub failed : {m b : ℕ} (t : List ℕ) {r : Bool} → Halving m b (entry t) r → r ≡ false → b < 3 ^ m → Sums m t → ⊥
-failed t h e l s = clash (h .sure (sums-halved t s l (h .free))) e
+failed t h e l s = denied (h .told) e (sums-halved t s l (h .free))

@@ -5,6 +5,7 @@ ghost use Prim.Native.Nat.{ℕ, _+_, _*_, _-_, _^_, _<_, _≤_};
 ghost use lib.Dec.{leb, ltb};
 ghost use lib.Count.{ones};
 ghost use lib.ListN.{length};
+ghost use Rattle.boxes.specs.Decides.{Decides};
 ghost use Rattle.boxes.specs.Boxes.{contains, sumIn, allFree};
 ghost use Rattle.tables.specs.Tables.{entry, own, afresh, raised, lowered, touched, inBounds, Sums};
 ghost use Rattle.tables.specs.Halving.{Halving};
@@ -80,7 +81,7 @@ fn halved(m: usize, b: usize, t: &[u32]) -> bool
 // Whether each entry is the sum over its box.
 pub fn sums(m: usize, t: &[u32]) -> bool
     requires { ⌜ (m ≤ 8) × (3 ^ m ≤ length (now t)) ⌝ }
-    ensures { λ r. ⌜ (r ≡ true → Sums m (now (t .entry))) × (Sums m (now (t .entry)) → r ≡ true) ⌝ }
+    ensures { λ r. ⌜ Decides r (Sums m (now (t .entry))) ⌝ }
 {
     let n = boxes::power3(m);
     for b in 0..n {

@@ -5,6 +5,7 @@ use native.Mathlib.Omega.{arith}
 use borrow.Author.Tests.{eqb-true, eq-eqb}
 use borrow.Author.Needs.{needs}
 use Rattle.tables.proofs.Halves.{power-fits}
+use Rattle.boxes.proofs.Cases.{decided-yes}
 use Rattle.tables.proofs.halved.Statement.{statement}
 use Rattle.tables.proofs.halved.Tie as tie
 
@@ -12,7 +13,7 @@ free-power-requires : tie.Need-free-power-requires
 free-power-requires c κs = search needs
 
 returns : tie.Need-returns
-returns c = let p = c .before .free-power in record { power = p .result; free = p .ensures; yes = λ e l. absurd (omega arith); sure = λ h. refl }
+returns c = let p = c .before .free-power in record { power = p .result; free = p .ensures; told = decided-yes refl (λ l. absurd (omega arith)) }
 
 mul-wide : tie.Need-mul-wide
 mul-wide c = search needs
@@ -62,8 +63,10 @@ returns-2 c =
     record {
       power = p .result;
       free = p .ensures;
-      yes = λ e l. let q = eqb-true (x .result) (y .result + z .result) e in omega (arith, x .ensures .0, y .ensures .0, z .ensures .0);
-      sure = λ h. eq-eqb (x .result) (y .result + z .result) (omega (arith, x .ensures .0, y .ensures .0, z .ensures .0, h (omega arith)));
+      told = record {
+        yes = λ e l. let q = eqb-true (x .result) (y .result + z .result) e in omega (arith, x .ensures .0, y .ensures .0, z .ensures .0);
+        sure = λ h. eq-eqb (x .result) (y .result + z .result) (omega (arith, x .ensures .0, y .ensures .0, z .ensures .0, h (omega arith)));
+      };
     }
 
 pub halved-spec : {M : Type 1} → statement M

@@ -6,7 +6,7 @@ use native.Mathlib.Omega.{arith}
 use borrow.Author.Needs.{needs}
 use borrow.Author.Count.{below-more}
 use borrow.Author.Tests.{not-true, not-false}
-use Rattle.boxes.proofs.Cases.{clash}
+use Rattle.boxes.proofs.Cases.{decided-yes, decided-no}
 use Rattle.tables.proofs.Halves.{Passed, passed, all-passed, failed}
 use Rattle.tables.proofs.sums.Statement.{statement}
 use Rattle.tables.proofs.sums.Tie as tie
@@ -29,7 +29,7 @@ halved-requires c κs = search needs
 returns : tie.Need-returns Inv-loop μ-loop
 returns c =
     let h = c .before .halved in
-    (λ e. clash e refl, λ s. absurd (failed (c .before .before .before .before .before .before .args .t .now) (h .ensures) (not-true _ (c .if1 .taken)) (omega arith) s))
+    decided-no refl (failed (c .before .before .before .before .before .before .args .t .now) (h .ensures) (not-true _ (c .if1 .taken)) (omega arith))
 
 add-b : tie.Need-add-b Inv-loop μ-loop
 add-b c = search needs
@@ -43,7 +43,7 @@ loop-again c =
     (omega arith, l .inv .1, below-more _ _ (l .inv .2) (passed (c .before .before .before .before .before .before .args .t .now) (c .before .halved .ensures) (not-false _ (c .if1 .left))))
 
 returns-2 : tie.Need-returns-2 Inv-loop μ-loop
-returns-2 c = (λ e. all-passed (c .before .before .before .before .args .t .now) (λ b l. c .before .loop .inv .2 b (omega arith)), λ s. refl)
+returns-2 c = decided-yes refl (all-passed (c .before .before .before .before .args .t .now) (λ b l. c .before .loop .inv .2 b (omega arith)))
 
 pub sums-spec : {M : Type 1} → statement M
 sums-spec =

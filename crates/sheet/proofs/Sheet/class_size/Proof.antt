@@ -1,55 +1,68 @@
+use Prim.Native.Nat.{ℕ, _-_, _+_}
+use mathlib.Core.Path.{_≡_, ap, subst}
+use native.Mathlib.Omega.{arith}
+use native.Mathlib.Nat.{one-le-pow}
+use lib.ListN.{length}
+use borrow.Author.Tests.{not-true, not-false}
 use borrow.Author.Needs.{needs}
+use Rattle.sheet.proofs.Classes.{size-counted}
+use Rattle.sheet.proofs.Tests.{marks-most, boxes-fit}
+use Rattle.sheet.specs.Calls.{ClassSize, spoiled, told}
+use Rattle.sheet.specs.Sound.{ClassReady, classOf, sizeOf}
+use Rattle.sheet.specs.Limits.{mostMarks}
+use Rattle.tables.specs.Tables.{entry}
+use Rattle.boxes.proofs.Cases.{denied}
 use Rattle.sheet.proofs.Sheet.class_size.Statement.{statement}
 use Rattle.sheet.proofs.Sheet.class_size.Tie as tie
-use Rattle.sheet.proofs.Sheet.class_size.Reads as reads
-use Rattle.sheet.proofs.Sheet.class_size.Lts as lts
-use Rattle.boxes.proofs.power2.Reads as power2-reads
-use Rattle.boxes.proofs.power3.Reads as power3-reads
-use Rattle.sheet.proofs.soundness.class_ready.Reads as class-ready-reads
 
--- src/lib.rt:159:39
+long : (c : tie.Start) → length (c .args .self .outside) ≡ 243
+long c = search needs
+
+ready : (c : tie.Else1) → let s = c .before .before .before .before .args .self in ClassReady mostMarks (s .marks) (s .outside)
+ready c = c .before .class-ready .ensures .yes (not-false _ (c .if1 .left))
+
+counted : (c : tie.After-power2)
+    → let s = c .before .before .before .before .before .before .args .self in sizeOf (s .marks) (classOf (s .marks) (s .outside)) + entry (s .outside) (c .before .power3 .result - 1) ≡ c .power2 .result
+counted c =
+    let s = c .before .before .before .before .before .before .args .self in
+    let all = ap (λ (n : ℕ). entry (s .outside) (n - 1)) (c .before .power3 .ensures .0) in
+    omega (arith, all, c .power2 .ensures .0, size-counted (s .marks) (s .outside) (ready (c .before .before) .class))
+
 slice-aggregate-class-ready : tie.Need-slice-aggregate-class-ready
 slice-aggregate-class-ready c = search needs
 
--- src/lib.rt:159:13
 class-ready-requires : tie.Need-class-ready-requires
-class-ready-requires c κs = ?
+class-ready-requires c κs = omega (arith, long (c .before .before))
 
--- src/lib.rt:160:13
 returns : tie.Need-returns
-returns c = ?
+returns c = spoiled (denied (c .before .class-ready .ensures) (not-true _ (c .if1 .taken)))
 
--- src/lib.rt:165:27
 power3-requires : tie.Need-power3-requires
-power3-requires c κs = ?
+power3-requires c κs = omega (arith, marks-most 5 _ (ready c .marks))
 
--- src/lib.rt:165:27
 sub-all : tie.Need-sub-all
-sub-all c = ?
+sub-all c = omega (arith, c .power3 .ensures .0, one-le-pow (c .before .before .before .before .before .args .self .marks) 3 (omega arith))
 
--- src/lib.rt:165:19
 mul-all : tie.Need-mul-all
 mul-all c = search needs
 
--- src/lib.rt:165:19
 array-read-all : tie.Need-array-read-all
-array-read-all c = ?
+array-read-all c = omega (arith, c .power3 .ensures .0, boxes-fit _ (ready (c .before) .marks), one-le-pow (c .before .before .before .before .before .args .self .marks) 3 (omega arith))
 
--- src/lib.rt:168:21
 power2-requires : tie.Need-power2-requires
-power2-requires c κs = ?
+power2-requires c κs = omega (arith, marks-most 5 _ (ready (c .before) .marks))
 
--- src/lib.rt:168:49
 cast-t16 : tie.Need-cast-t16
 cast-t16 c = search needs
 
--- src/lib.rt:168:20
 sub-t17 : tie.Need-sub-t17
-sub-t17 c = ?
+sub-t17 c = omega (arith, counted c)
 
--- src/lib.rt:154:5
 returns-2 : tie.Need-returns-2
-returns-2 c = ?
+returns-2 c =
+    let s = c .before .before .before .before .before .before .args .self in
+    let e : sizeOf (s .marks) (classOf (s .marks) (s .outside)) ≡ c .power2 .result - entry (s .outside) (c .before .power3 .result - 1) = omega (arith, counted c) in
+    subst (λ (v : ℕ). ClassSize mostMarks s (record { number = 0; value = v })) e (told (ready (c .before .before)))
 
 pub class-size-spec : {M : Type 1} → statement M
 class-size-spec =

@@ -1,5 +1,4 @@
 -- The shared tests decide, or else the touched entries do.
-use Prim.Native.Nat.{_^_, _≤_}
 use mathlib.Core.Path.{_≡_, sym, _∙_}
 use native.Mathlib.Omega.{arith}
 use borrow.Author.Tests.{not-true, not-false}

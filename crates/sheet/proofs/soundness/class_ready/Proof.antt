@@ -1,26 +1,23 @@
+use mathlib.Core.Path.{sym, _∙_}
 use borrow.Author.Needs.{needs}
+use Rattle.sheet.proofs.Tests.{marks-most}
+use Rattle.boxes.proofs.Cases.{decided-no, clash}
 use Rattle.sheet.proofs.soundness.class_ready.Statement.{statement}
 use Rattle.sheet.proofs.soundness.class_ready.Tie as tie
-use Rattle.sheet.proofs.soundness.class_ready.Reads as reads
-use Rattle.sheet.proofs.soundness.class_ready.Lts as lts
-use Rattle.sheet.proofs.numbers.marks_ok.Reads as marks-ok-reads
-use Rattle.sheet.proofs.soundness.class_sound.Reads as class-sound-reads
 
--- src/soundness.rt:49:5
 marks-ok-requires : tie.Need-marks-ok-requires
 marks-ok-requires c κs = search needs
 
--- src/soundness.rt:49:36
 class-sound-requires : tie.Need-class-sound-requires
-class-sound-requires c κs = ?
+class-sound-requires c κs = (marks-most 5 _ (sym (c .before .marks-ok .ensures) ∙ c .if1 .taken), c .before .before .before .pre)
 
--- src/soundness.rt:45:1
 returns : tie.Need-returns
-returns c = ?
+returns c =
+    let marks = sym (c .before .before .marks-ok .ensures) ∙ c .before .if1 .taken in
+    record { yes = λ e. record { marks = marks; class = c .class-sound .ensures .yes e }; sure = λ r. c .class-sound .ensures .sure (r .class) }
 
--- src/soundness.rt:45:1
 returns-2 : tie.Need-returns-2
-returns-2 c = ?
+returns-2 c = decided-no (c .if1 .left) (λ r. clash (r .marks) (sym (c .before .marks-ok .ensures) ∙ c .if1 .left))
 
 pub class-ready-spec : {M : Type 1} → statement M
 class-ready-spec = tie.close (tie.spec marks-ok-requires class-sound-requires returns returns-2)

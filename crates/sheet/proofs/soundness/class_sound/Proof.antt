@@ -1,26 +1,23 @@
+use native.Mathlib.Omega.{arith}
+use native.Mathlib.Nat.{pow-le-pow-right}
 use borrow.Author.Needs.{needs}
+use Rattle.boxes.proofs.Cases.{decided-no, denied}
 use Rattle.sheet.proofs.soundness.class_sound.Statement.{statement}
 use Rattle.sheet.proofs.soundness.class_sound.Tie as tie
-use Rattle.sheet.proofs.soundness.class_sound.Reads as reads
-use Rattle.sheet.proofs.soundness.class_sound.Lts as lts
-use Rattle.sheet.proofs.soundness.ones.Reads as ones-reads
-use Rattle.tables.proofs.sums.Reads as sums-reads
 
--- src/soundness.rt:32:5
 ones-requires : tie.Need-ones-requires
 ones-requires c κs = search needs
 
--- src/soundness.rt:32:19
 sums-requires : tie.Need-sums-requires
-sums-requires c κs = ?
+sums-requires c κs = (omega arith, omega (arith, c .before .before .before .pre .1, pow-le-pow-right {n = 3} (omega arith) {i = c .before .before .before .args .m} {j = 5} (omega arith)))
 
--- src/soundness.rt:28:1
 returns : tie.Need-returns
-returns c = ?
+returns c =
+    let ones = c .before .before .ones .ensures .yes (c .before .if1 .taken) in
+    record { yes = λ e. record { sums = c .sums .ensures .yes e; ones = ones }; sure = λ s. c .sums .ensures .sure (s .sums) }
 
--- src/soundness.rt:28:1
 returns-2 : tie.Need-returns-2
-returns-2 c = ?
+returns-2 c = decided-no (c .if1 .left) (λ s. denied (c .before .ones .ensures) (c .if1 .left) (s .ones))
 
 pub class-sound-spec : {M : Type 1} → statement M
 class-sound-spec = tie.close (tie.spec ones-requires sums-requires returns returns-2)

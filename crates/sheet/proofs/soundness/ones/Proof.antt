@@ -1,55 +1,59 @@
+-- Every combination below c has an own count of 0 or 1.
+use Prim.Native.Nat.{ℕ, _-_, _^_, _≤_, _<_}
+use mathlib.Core.Path.{_≡_, refl, ap}
+use native.Mathlib.Omega.{arith}
+use native.Mathlib.Nat.{pow-le-pow-right}
+use borrow.Author.Needs.{needs}
+use borrow.Author.Count.{below-more}
+use Rattle.tables.specs.Tables.{entry, own}
+use Rattle.boxes.proofs.Cases.{decided-yes, decided-no}
 use Rattle.sheet.proofs.soundness.ones.Statement.{statement}
 use Rattle.sheet.proofs.soundness.ones.Tie as tie
-use Rattle.sheet.proofs.soundness.ones.Reads as reads
-use Rattle.sheet.proofs.soundness.ones.Lts as lts
-use Rattle.boxes.proofs.power2.Reads as power2-reads
-use Rattle.boxes.proofs.single.Reads as single-reads
 
 abbrev Inv-loop : tie.InvT-loop
-Inv-loop m t n c₀ c = ?
+Inv-loop m t n c₀ c = (c ≤ n) × (n ≡ 2 ^ m) × ((k : ℕ) → k < c → own m t k ≤ 1)
 
 abbrev μ-loop : tie.MeasureT-loop
-μ-loop m t n c₀ c = ?
+μ-loop m t n c₀ c = n - c
 
--- src/soundness.rt:17:9
+small : (c : tie.After-single Inv-loop μ-loop) → c .single .result < 243
+small c = omega (arith, c .single .ensures .1, pow-le-pow-right {n = 3} (omega arith) {i = c .before .before .before .before .before .args .m} {j = 5} (omega arith))
+
+here : (c : tie.After-shared-slice-known2 Inv-loop μ-loop)
+    → let a = c .before .before .before .before .before .before .args in entry (a .t .now) (c .before .single .result) ≡ own (a .m) (a .t .now) (c .before .before .before .loop .c)
+here c = ap (entry (c .before .before .before .before .before .before .args .t .now)) (c .before .single .ensures .0)
+
 power2-requires : tie.Need-power2-requires Inv-loop μ-loop
-power2-requires c κs = ?
+power2-requires c κs = search needs
 
--- src/soundness.rt:18:5
 loop-holds : tie.Need-loop-holds Inv-loop μ-loop
-loop-holds c = ?
+loop-holds c = (omega arith, c .power2 .ensures .0, λ k l. absurd (omega arith))
 
--- src/soundness.rt:19:13
 single-requires : tie.Need-single-requires Inv-loop μ-loop
-single-requires c κs = ?
+single-requires c κs = search needs
 
--- src/soundness.rt:20:16
 mul-if1 : tie.Need-mul-if1 Inv-loop μ-loop
-mul-if1 c = ?
+mul-if1 c = omega (arith, small c)
 
--- src/soundness.rt:20:16
 shared-slice-read-if1 : tie.Need-shared-slice-read-if1 Inv-loop μ-loop
-shared-slice-read-if1 c = ?
+shared-slice-read-if1 c = omega (arith, small (c .before), c .before .before .before .before .before .before .pre .1)
 
--- src/soundness.rt:21:13
 returns : tie.Need-returns Inv-loop μ-loop
-returns c = ?
+returns c = decided-no refl (λ h. omega (arith, here (c .before), h (c .before .before .before .before .loop .c) (omega arith)))
 
--- src/soundness.rt:18:9
 add-c : tie.Need-add-c Inv-loop μ-loop
-add-c c = ?
+add-c c = search needs
 
--- src/soundness.rt:18:5
 loop-less : tie.Need-loop-less Inv-loop μ-loop
-loop-less c = ?
+loop-less c = search needs
 
--- src/soundness.rt:18:5
 loop-again : tie.Need-loop-again Inv-loop μ-loop
-loop-again c = ?
+loop-again c =
+    let l = c .before .before .before .before .loop in
+    (omega arith, l .inv .1, below-more _ _ (l .inv .2) (omega (arith, here (c .before))))
 
--- src/soundness.rt:13:1
 returns-2 : tie.Need-returns-2 Inv-loop μ-loop
-returns-2 c = ?
+returns-2 c = decided-yes refl (λ k l. c .before .loop .inv .2 k (omega arith))
 
 pub ones-spec : {M : Type 1} → statement M
 ones-spec =

@@ -1,38 +1,44 @@
+use Prim.Native.Nat.{ℕ, _-_}
+use mathlib.Core.Path.{_≡_, ap}
+use native.Mathlib.Omega.{arith}
+use native.Mathlib.Nat.{pow-le-pow-right, one-le-pow}
+use borrow.Author.Tests.{lt-leb}
 use borrow.Author.Needs.{needs}
+use Rattle.tables.specs.Tables.{entry}
+use Rattle.boxes.specs.Boxes.{allFree}
+use Rattle.boxes.proofs.Cases.{decided-no}
 use Rattle.sheet.proofs.soundness.times_sound.Statement.{statement}
 use Rattle.sheet.proofs.soundness.times_sound.Tie as tie
-use Rattle.sheet.proofs.soundness.times_sound.Reads as reads
-use Rattle.sheet.proofs.soundness.times_sound.Lts as lts
-use Rattle.boxes.proofs.power3.Reads as power3-reads
-use Rattle.tables.proofs.sums.Reads as sums-reads
 
--- src/soundness.rt:40:13
+all : (c : tie.After-shared-slice-known2)
+    → let a = c .before .before .before .args in entry (a .t .now) (c .before .power3 .result - 1) ≡ entry (a .t .now) (allFree (a .m))
+all c = ap (λ (n : ℕ). entry (c .before .before .before .args .t .now) (n - 1)) (c .before .power3 .ensures .0)
+
 power3-requires : tie.Need-power3-requires
 power3-requires c κs = search needs
 
--- src/soundness.rt:40:13
 sub-b : tie.Need-sub-b
-sub-b c = ?
+sub-b c = omega (arith, c .power3 .ensures .0, one-le-pow (c .before .before .args .m) 3 (omega arith))
 
--- src/soundness.rt:41:5
 mul-if1 : tie.Need-mul-if1
 mul-if1 c = search needs
 
--- src/soundness.rt:41:5
 shared-slice-read-if1 : tie.Need-shared-slice-read-if1
-shared-slice-read-if1 c = ?
+shared-slice-read-if1 c = omega (arith, c .before .power3 .ensures .0, c .before .before .before .pre .1, pow-le-pow-right {n = 3} (omega arith) {i = c .before .before .before .args .m} {j = 5} (omega arith), one-le-pow (c .before .before .before .args .m) 3 (omega arith))
 
--- src/soundness.rt:41:33
 sums-requires : tie.Need-sums-requires
-sums-requires c κs = ?
+sums-requires c κs = (omega arith, omega (arith, c .before .before .before .before .pre .1, pow-le-pow-right {n = 3} (omega arith) {i = c .before .before .before .before .args .m} {j = 5} (omega arith)))
 
--- src/soundness.rt:36:1
 returns : tie.Need-returns
-returns c = ?
+returns c =
+    let most = c .before .if1 .taken in
+    record { yes = λ e. record { sums = c .sums .ensures .yes e; most = omega (arith, all (c .before .before)) }; sure = λ s. c .sums .ensures .sure (s .sums) }
 
--- src/soundness.rt:36:1
 returns-2 : tie.Need-returns-2
-returns-2 c = ?
+returns-2 c =
+    let a = c .before .before .before .before .args in
+    let b = c .before .before .power3 .result - 1 in
+    decided-no (lt-leb (entry (a .t .now) b) 4000000000 (c .if1 .left)) (λ s. omega (arith, s .most, all (c .before)))
 
 pub times-sound-spec : {M : Type 1} → statement M
 times-sound-spec =
