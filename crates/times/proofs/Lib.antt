@@ -1,0 +1,5 @@
+pub mod Places
+pub mod Behinds
+pub mod Fronts
+pub mod Settled
+pub mod Known
