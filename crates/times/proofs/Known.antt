@@ -1,6 +1,6 @@
 -- The texts of 01 ('Known sheets') that are shown of the definitions: one table, one statement.
 use Prim.Native.Nat.{ℕ, _+_, _-_, _*_, _≤_}
-use mathlib.Core.Path.{_≡_, refl}
+use mathlib.Core.Path.{refl}
 use mathlib.Core.List.{List, [], _∷_}
 use native.Mathlib.Omega.{arith}
 use Rattle.times.specs.declared.Time.{Time}

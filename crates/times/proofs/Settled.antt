@@ -1,7 +1,7 @@
 -- No two returns meet the promise of `read`, and none that of `answer`: a text has one number, down the chain of what may stand behind what.
 use Prim.Native.Nat.{ℕ, _+_, _*_}
-use mathlib.Core.Path.{_≡_, refl, sym, ap, _∙_, subst}
-use mathlib.Core.List.{List, [], _∷_, _++_}
+use mathlib.Core.Path.{_≡_, sym, ap, _∙_, subst}
+use mathlib.Core.List.{List}
 use native.Mathlib.Omega.{arith}
 use Rattle.times.specs.declared.Time.{Time}
 use Rattle.times.specs.declared.Reading.{Reading}

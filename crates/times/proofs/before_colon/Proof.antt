@@ -1,6 +1,5 @@
 -- The loop has read digits that a readable text begins with (`SoFar`). Each way out is one of the three laws at the place i.
 use native.Mathlib.Omega.{arith}
-use borrow.Author.Needs.{needs}
 use Prim.Native.Nat.{_≤_, _-_}
 use lib.ListN.{length, getD, take}
 use borrow.Author.Tests.{not-true, not-false}

@@ -1,12 +1,11 @@
 -- Each return is the law of the bytes that its tests showed.
 use native.Mathlib.Omega.{arith}
 use borrow.Author.Needs.{needs}
-use Prim.Native.Nat.{_+_, _-_, _*_, _<_, _≤_}
-use mathlib.Core.Path.{_≡_, sym, subst}
-use lib.ListN.{length, getD, drop, length-drop}
+use Prim.Native.Nat.{_+_, _-_, _*_, _≤_}
+use mathlib.Core.Path.{_≡_}
+use lib.ListN.{getD, drop, length-drop}
 use borrow.Author.Tests.{not-true, not-false}
-use Rattle.times.specs.declared.Time.{Time}
-use Rattle.times.specs.Texts.{After, Behind}
+use Rattle.times.specs.Texts.{After}
 use Rattle.times.specs.Places.{Reads}
 use Rattle.times.proofs.Places.{tests-yes, tests-no, place-le, lent-part}
 use Rattle.times.proofs.Behinds.{behind-none, behind-tens, behind-one, behind-ones, behind-two}
