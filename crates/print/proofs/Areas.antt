@@ -1,5 +1,5 @@
 -- Laws of texts laid in an area: two texts laid one behind the other are one text (`wrote-then`), a byte that is stored is a text of one.
-use Prim.Native.Nat.{ℕ, suc, _+_, _≤_, _<_}
+use Prim.Native.Nat.{ℕ, suc, _+_, _-_, _≤_, _<_}
 use mathlib.Core.Path.{_≡_, refl, sym, _∙_, ap, subst}
 use mathlib.Core.List.{List, [], _∷_, _++_, append-assoc, append-nil}
 use native.Mathlib.Nat.{add-zero}
@@ -88,6 +88,15 @@ wrote-front {out} {o₁} {r₁} {a} p = (
   ap (λ (o : List ℕ). take r₁ o) (p .area) ∙ take-at a (drop (0 + length a) out) r₁ (omega (arith, p .place)),
   omega (arith, p .place, ap length (p .area), length-append a (drop (0 + length a) out)),
 )
+
+-- what stands from the place up to the next place is the text
+pub wrote-there : {out o₁ : List ℕ} {at r₁ : ℕ} {a : List ℕ} → Wrote out at a r₁ o₁ → at ≤ length out → take (r₁ - at) (drop at o₁) ≡ a
+unfolding laid
+wrote-there {out} {o₁} {at} {r₁} {a} p h =
+    let rest = drop (at + length a) out in
+    ap (λ (o : List ℕ). take (r₁ - at) (drop at o)) (p .area ∙ append-assoc (take at out) a rest)
+    ∙ ap (λ (o : List ℕ). take (r₁ - at) o) (drop-at (take at out) (a ++ rest) at (length-take-le at out h))
+    ∙ take-at a rest (r₁ - at) (omega (arith, p .place))
 
 -- no two returns meet it
 pub wrote-settled : {out o₁ o₂ : List ℕ} {at r₁ r₂ : ℕ} {a : List ℕ} → Wrote out at a r₁ o₁ → Wrote out at a r₂ o₂ → (r₁ ≡ r₂) × (o₁ ≡ o₂)

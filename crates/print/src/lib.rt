@@ -46,7 +46,7 @@ pub fn put_number(out: &mut [u8], at: usize, n: u64) -> usize
     put_byte(out, next, digit(n % 10))
 }
 
-// Seconds as minutes, a colon and two digits, at most 22 bytes.
+// Seconds as minutes, a colon and two digits, at most 21 bytes, and 11 up to 4,000,000,000 seconds.
 pub fn put_time(out: &mut [u8], at: usize, seconds: u64) -> usize
     requires { ⌜ at + length (clock seconds) ≤ length (now out) ⌝ }
     ensures { λ r. ⌜ Wrote (now (out .entry)) at (clock seconds) r (now (out .exit)) ⌝ }
