@@ -15,7 +15,8 @@
 //
 // No contract. Propose freely, check by proof: whoever uses the weights works out with whole numbers whether any box weighs too much, so
 // nothing is promised but that the calls are safe and end, whatever the tables hold and however the floats round.
-ghost use Prim.Native.Nat.{_<_, _≤_};
+ghost use Prim.Native.Nat.{_+_, _<_, _≤_};
+ghost use lib.ListN.{length};
 
 // What each combination weighs, `plus - minus` in parts of 65536.
 pub struct Weights {
@@ -23,9 +24,9 @@ pub struct Weights {
     pub minus: [u32; 32],
 }
 
-// The column that comes in: a box, or 243 and a combination; and what is gained for each part of it. 275: none gains.
+// What comes in, a box or a combination that is not needed, as a set of combinations, and what each part of it gains. 0: nothing gains.
 struct Best {
-    column: usize,
+    set: u32,
     gain: f64,
 }
 
@@ -57,36 +58,24 @@ fn lows() -> [usize; 243] {
     lows
 }
 
-// t times d, taken from x.
+// t times 32 numbers of d, from `from` on, are taken from those of x from `at` on.
+fn less_at(x: &mut [f64], at: usize, d: &[f64], from: usize, t: f64)
+    requires { ⌜ (at + 32 ≤ length (now x)) × (from + 32 ≤ length (now d)) ⌝ }
+{
+    for i in 0..32 {
+        x[at + i] = x[at + i] - t * d[from + i];
+    }
+}
+
 fn less(x: &mut [f64; 32], d: &[f64; 32], t: f64) {
-    for i in 0..32 {
-        x[i] = x[i] - t * d[i];
-    }
+    less_at(x, 0, d, 0, t);
 }
 
-// t times d, taken from column j of the inverse.
-fn column_less(inverse: &mut [f64; 1024], j: usize, d: &[f64; 32], t: f64)
-    requires { ⌜ j < 32 ⌝ }
-{
-    for i in 0..32 {
-        inverse[j * 32 + i] = inverse[j * 32 + i] - t * d[i];
-    }
-}
-
-// Column j of the inverse, added to d.
-fn column_more(inverse: &[f64; 1024], j: usize, d: &mut [f64; 32])
-    requires { ⌜ j < 32 ⌝ }
-{
-    for i in 0..32 {
-        d[i] = d[i] + inverse[j * 32 + i];
-    }
-}
-
-// The columns of a set of combinations, added to d.
-fn columns_more(inverse: &[f64; 1024], s: u32, d: &mut [f64; 32]) {
+// The column of a set of combinations, added to d.
+fn column(inverse: &[f64; 1024], s: u32, d: &mut [f64; 32]) {
     for c in 0..32 {
         if (s >> c) % 2 == 1 {
-            column_more(inverse, c, d);
+            less_at(d, 0, inverse, c * 32, -1.0);
         }
     }
 }
@@ -150,33 +139,33 @@ fn best_box(
     let mut v = [0.0; 243];
     weigh_singles(singles, y, &mut v);
     let mut gain = 0.000000001;
-    let mut column: usize = 275;
+    let mut set: u32 = 0;
     for b in 0..243 {
         let s = sets[b];
         if s & room == s {
             let over = weigh(&mut v, b, lows[b]) - 1.0;
             if over > gain {
                 gain = over;
-                column = b;
+                set = s;
             }
         }
     }
-    Best { column, gain }
+    Best { set, gain }
 }
 
 // That box, or the combination of the spare ones, those not needed, that weighs more.
 fn or_spare(best: Best, spare: u32, y: &[f64; 32]) -> Best {
-    let mut column = best.column;
+    let mut set = best.set;
     let mut gain = best.gain;
     for c in 0..32 {
         if (spare >> c) % 2 == 1 {
             if y[c] > gain {
                 gain = y[c];
-                column = 243 + c;
+                set = 1u32 << c;
             }
         }
     }
-    Best { column, gain }
+    Best { set, gain }
 }
 
 // The inverse and the weights after a pivot at a row.
@@ -194,29 +183,18 @@ fn eliminate(
         let t = inverse[j * 32 + row] * share;
         if t != 0.0 {
             y[j] = y[j] - gain * t;
-            column_less(inverse, j, d, t);
+            less_at(inverse, j * 32, d, 0, t);
         }
     }
 }
 
-// The column comes in; false where none gains or no row can go out.
-fn pivot(
-    sets: &[u32; 243],
-    best: Best,
-    inverse: &mut [f64; 1024],
-    x: &mut [f64; 32],
-    y: &mut [f64; 32],
-) -> bool {
-    let b = best.column;
-    let mut d = [0.0; 32];
-    if b < 243 {
-        columns_more(inverse, sets[b], &mut d);
-    } else {
-        if 275 <= b {
-            return false;
-        }
-        column_more(inverse, b - 243, &mut d);
+// The set comes in; false where there is none, or no row can go out.
+fn pivot(best: Best, inverse: &mut [f64; 1024], x: &mut [f64; 32], y: &mut [f64; 32]) -> bool {
+    if best.set == 0 {
+        return false;
     }
+    let mut d = [0.0; 32];
+    column(inverse, best.set, &mut d);
     let row = leaving(x, &d);
     if 32 <= row {
         return false;
@@ -270,7 +248,7 @@ fn solve(
     let mut k: usize = 0;
     while k < 200 {
         let best = or_spare(best_box(sets, singles, lows, room, &y), room & !need, &y);
-        if pivot(sets, best, &mut inverse, &mut x, &mut y) {
+        if pivot(best, &mut inverse, &mut x, &mut y) {
             k += 1;
         } else {
             k = 200;

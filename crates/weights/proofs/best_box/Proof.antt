@@ -6,10 +6,10 @@ use Rattle.weights.proofs.best_box.Statement.{statement}
 use Rattle.weights.proofs.best_box.Tie as tie
 
 abbrev Inv-loop : tie.InvT-loop
-Inv-loop sets singles lows room y v₀ gain₀ column₀ b₀ v gain column b = b ≤ 243
+Inv-loop sets singles lows room y v₀ gain₀ set₀ b₀ v gain set b = b ≤ 243
 
 abbrev μ-loop : tie.MeasureT-loop
-μ-loop sets singles lows room y v₀ gain₀ column₀ b₀ v gain column b = 243 - b
+μ-loop sets singles lows room y v₀ gain₀ set₀ b₀ v gain set b = 243 - b
 
 weigh-singles-requires : tie.Need-weigh-singles-requires Inv-loop μ-loop
 weigh-singles-requires c κs = search needs

@@ -38,8 +38,11 @@ mul-y-2 c = omega arith
 element-write-y : tie.Need-element-write-y Inv-loop μ-loop
 element-write-y c = omega arith
 
-column-less-requires : tie.Need-column-less-requires Inv-loop μ-loop
-column-less-requires c κs = search needs
+mul-less-at : tie.Need-mul-less-at Inv-loop μ-loop
+mul-less-at c = omega arith
+
+less-at-requires : tie.Need-less-at-requires Inv-loop μ-loop
+less-at-requires c κs = search needs
 
 add-j : tie.Need-add-j Inv-loop μ-loop
 add-j c = omega arith
@@ -68,7 +71,8 @@ eliminate-spec =
     element-copy-out-y
     mul-y-2
     element-write-y
-    column-less-requires
+    mul-less-at
+    less-at-requires
     add-j
     loop-less
     loop-again

@@ -6,10 +6,10 @@ use Rattle.weights.proofs.or_spare.Statement.{statement}
 use Rattle.weights.proofs.or_spare.Tie as tie
 
 abbrev Inv-loop : tie.InvT-loop
-Inv-loop spare y column₀ gain₀ c₀ column gain c = c ≤ 32
+Inv-loop spare y set₀ gain₀ c₀ set gain c = c ≤ 32
 
 abbrev μ-loop : tie.MeasureT-loop
-μ-loop spare y column₀ gain₀ c₀ column gain c = 32 - c
+μ-loop spare y set₀ gain₀ c₀ set gain c = 32 - c
 
 loop-holds : tie.Need-loop-holds Inv-loop μ-loop
 loop-holds c = omega arith
@@ -32,8 +32,11 @@ mul-gain c = omega arith
 element-copy-out-gain : tie.Need-element-copy-out-gain Inv-loop μ-loop
 element-copy-out-gain c = omega arith
 
-add-column : tie.Need-add-column Inv-loop μ-loop
-add-column c = omega arith
+cast-set : tie.Need-cast-set Inv-loop μ-loop
+cast-set c = omega arith
+
+shl-set : tie.Need-shl-set Inv-loop μ-loop
+shl-set c = omega arith
 
 add-c : tie.Need-add-c Inv-loop μ-loop
 add-c c = omega arith
@@ -60,7 +63,8 @@ or-spare-spec =
     element-copy-out-if2
     mul-gain
     element-copy-out-gain
-    add-column
+    cast-set
+    shl-set
     add-c
     loop-less
     loop-again

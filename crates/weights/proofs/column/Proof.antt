@@ -2,8 +2,8 @@
 use Prim.Native.Nat.{_≤_, _-_}
 use native.Mathlib.Omega.{arith}
 use borrow.Author.Needs.{needs}
-use Rattle.weights.proofs.columns_more.Statement.{statement}
-use Rattle.weights.proofs.columns_more.Tie as tie
+use Rattle.weights.proofs.column.Statement.{statement}
+use Rattle.weights.proofs.column.Tie as tie
 
 abbrev Inv-loop : tie.InvT-loop
 Inv-loop inverse s d₀ c₀ d c = c ≤ 32
@@ -20,8 +20,11 @@ cast-if1 c = omega arith
 shr-if1 : tie.Need-shr-if1 Inv-loop μ-loop
 shr-if1 c = omega arith
 
-column-more-requires : tie.Need-column-more-requires Inv-loop μ-loop
-column-more-requires c κs = search needs
+mul-less-at : tie.Need-mul-less-at Inv-loop μ-loop
+mul-less-at c = omega arith
+
+less-at-requires : tie.Need-less-at-requires Inv-loop μ-loop
+less-at-requires c κs = search needs
 
 add-c : tie.Need-add-c Inv-loop μ-loop
 add-c c = omega arith
@@ -35,8 +38,8 @@ loop-again c = omega arith
 returns : tie.Need-returns Inv-loop μ-loop
 returns c = search needs
 
-pub columns-more-spec : {M : Type 1} → statement M
-columns-more-spec =
+pub column-spec : {M : Type 1} → statement M
+column-spec =
     tie.close
     (tie.spec
     Inv-loop
@@ -44,7 +47,8 @@ columns-more-spec =
     loop-holds
     cast-if1
     shr-if1
-    column-more-requires
+    mul-less-at
+    less-at-requires
     add-c
     loop-less
     loop-again
