@@ -2,4 +2,5 @@ pub mod Places
 pub mod Behinds
 pub mod Fronts
 pub mod Settled
+pub mod Words
 pub mod Known
