@@ -81,14 +81,14 @@ pub changes : (most : ℕ) (into : Bool) (m : ℕ) (t : List ℕ) (c : ℕ) → 
 changes most into m t c z =
     if (marksOk most m)
     (λ marks. below-or c (2 ^ m)
-      (λ low. below-or 1 (own m t c)
-        (λ l. absurd (omega (arith, change-own most into m t c marks low l)))
-        (λ one. if (eqb (own m t c) (standing into))
-          (λ e. absurd (omega (arith, change-3 most into m t c marks low one e)))
-          (λ other. if (touched m c (fitsMoved into m t))
-            (λ fits. record { marks = marks; low = low; one = one; other = other; fits = fits })
-            (λ e. absurd (omega (arith, change-count most into m t c marks low one other e))))))
-      (λ l. absurd (omega (arith, change-2 most into m t c marks l))))
+    (λ low. below-or 1 (own m t c)
+    (λ l. absurd (omega (arith, change-own most into m t c marks low l)))
+    (λ one. if (eqb (own m t c) (standing into))
+    (λ e. absurd (omega (arith, change-3 most into m t c marks low one e)))
+    (λ other. if (touched m c (fitsMoved into m t))
+    (λ fits. record { marks = marks; low = low; one = one; other = other; fits = fits })
+    (λ e. absurd (omega (arith, change-count most into m t c marks low one other e))))))
+    (λ l. absurd (omega (arith, change-2 most into m t c marks l))))
     (λ e. absurd (omega (arith, change-7 most into m t c e)))
 
 -- receipts and withdrawals
@@ -129,10 +129,10 @@ pub shared : {P : Type 0} (most m c d last last′ : ℕ) (fits fits′ : Bool) 
 shared most m c d last last′ fits fits′ same pass =
     if (marksOk most m)
     (λ marks. below-or c (2 ^ m)
-      (λ low. if (amountOk d)
-        (λ amount. pass (record { marks = marks; low = low; amount = amount }))
-        (λ e. let x = amount-4 most m c d last fits marks low e in same (x ∙ sym (amount-4 most m c d last′ fits′ marks low e)) (omega arith)))
-      (λ l. let x = amount-2 most m c d last fits marks l in same (x ∙ sym (amount-2 most m c d last′ fits′ marks l)) (omega arith)))
+    (λ low. if (amountOk d)
+    (λ amount. pass (record { marks = marks; low = low; amount = amount }))
+    (λ e. let x = amount-4 most m c d last fits marks low e in same (x ∙ sym (amount-4 most m c d last′ fits′ marks low e)) (omega arith)))
+    (λ l. let x = amount-2 most m c d last fits marks l in same (x ∙ sym (amount-2 most m c d last′ fits′ marks l)) (omega arith)))
     (λ e. let x = amount-7 most m c d last fits e in same (x ∙ sym (amount-7 most m c d last′ fits′ e)) (omega arith))
 
 pub shared-passed : (most m c d : ℕ) → amountNo most m c d 0 true ≡ 0 → Moves most m c d

@@ -46,8 +46,11 @@ fn table(m: usize, own: &[u32]) -> [u32; Sheet::ENTRIES]
 
 impl Sheet {
     pub const MOST_MARKS: usize = 5;
+
     pub const ENTRIES: usize = 243;
+
     pub const MOST_HELD: u32 = 4_000_000_000;
+
     pub const MOST_AMOUNT: u64 = 35_999;
 
     // The sheet worked out afresh from what each combination adds to the outside counts, and the seconds that it holds.
@@ -97,7 +100,10 @@ impl Sheet {
         let mut outside = self.outside;
         let number = numbers::change_number(m, c, &outside, true);
         if number != 0 {
-            return Answer { number, sheet: self };
+            return Answer {
+                number,
+                sheet: self,
+            };
         }
         tables::lower(m, c, 1, &mut outside);
         let held = self.held;
@@ -117,7 +123,10 @@ impl Sheet {
         let mut outside = self.outside;
         let number = numbers::change_number(m, c, &outside, false);
         if number != 0 {
-            return Answer { number, sheet: self };
+            return Answer {
+                number,
+                sheet: self,
+            };
         }
         tables::raise(m, c, 1, &mut outside);
         let held = self.held;
@@ -137,7 +146,10 @@ impl Sheet {
         let mut held = self.held;
         let number = numbers::receive_number(m, c, d, &held);
         if number != 0 {
-            return Answer { number, sheet: self };
+            return Answer {
+                number,
+                sheet: self,
+            };
         }
         tables::raise(m, c, d as u32, &mut held);
         let outside = self.outside;
@@ -157,7 +169,10 @@ impl Sheet {
         let mut held = self.held;
         let number = numbers::withdraw_number(m, c, d, &held);
         if number != 0 {
-            return Answer { number, sheet: self };
+            return Answer {
+                number,
+                sheet: self,
+            };
         }
         tables::lower(m, c, d as u32, &mut held);
         let outside = self.outside;

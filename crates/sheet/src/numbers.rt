@@ -7,7 +7,6 @@ ghost use lib.ListN.{length};
 ghost use Rattle.tables.specs.Tables.{touched};
 ghost use Rattle.sheet.specs.Limits.{mostMarks, entries, marksOk, amountOk};
 ghost use Rattle.sheet.specs.Calls.{standing, fitsMoved, changeNo, amountNo, receiveNo, withdrawNo};
-
 use crate::Sheet;
 
 // Whether a sheet may have m marks.

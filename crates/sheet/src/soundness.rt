@@ -6,7 +6,6 @@ ghost use lib.ListN.{length};
 ghost use Rattle.tables.specs.Tables.{own};
 ghost use Rattle.sheet.specs.Limits.{mostMarks, entries, marksOk};
 ghost use Rattle.sheet.specs.Sound.{ClassSound, TimesSound};
-
 use crate::Sheet;
 
 // Whether each combination's own count is 0 or 1.

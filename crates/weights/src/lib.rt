@@ -30,30 +30,11 @@ struct Best {
     gain: f64,
 }
 
-// 3^i for the lowest free mark i of a box, 0 where it has none.
-fn low_of(b: usize) -> usize {
-    if b % 3 == 2 {
-        return 1;
-    }
-    if b / 3 % 3 == 2 {
-        return 3;
-    }
-    if b / 9 % 3 == 2 {
-        return 9;
-    }
-    if b / 27 % 3 == 2 {
-        return 27;
-    }
-    if b / 81 % 3 == 2 {
-        return 81;
-    }
-    0
-}
-
+// For each box the power of 3 of its lowest free mark, 0 where it has none.
 fn lows() -> [usize; 243] {
     let mut lows = [0usize; 243];
     for b in 0..243 {
-        lows[b] = low_of(b);
+        lows[b] = boxes::free_power(5, b);
     }
     lows
 }

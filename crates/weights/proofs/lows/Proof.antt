@@ -14,8 +14,8 @@ abbrev μ-loop : tie.MeasureT-loop
 loop-holds : tie.Need-loop-holds Inv-loop μ-loop
 loop-holds c = omega arith
 
-low-of-requires : tie.Need-low-of-requires Inv-loop μ-loop
-low-of-requires c κs = search needs
+free-power-requires : tie.Need-free-power-requires Inv-loop μ-loop
+free-power-requires c κs = search needs
 
 mul-lows : tie.Need-mul-lows Inv-loop μ-loop
 mul-lows c = omega arith
@@ -42,7 +42,7 @@ lows-spec =
     Inv-loop
     μ-loop
     loop-holds
-    low-of-requires
+    free-power-requires
     mul-lows
     array-write-lows
     add-b

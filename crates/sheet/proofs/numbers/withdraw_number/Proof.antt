@@ -4,7 +4,7 @@ use mathlib.Core.Path.{_≡_, sym, _∙_}
 use native.Mathlib.Omega.{arith}
 use borrow.Author.Tests.{not-true, not-false}
 use borrow.Author.Needs.{needs}
-use Rattle.sheet.proofs.Tests.{Moves, marks-most, boxes-fit,  shared-passed, shared-refused, amount-last, amount-0, withdraw-bounds}
+use Rattle.sheet.proofs.Tests.{Moves, marks-most, boxes-fit, shared-passed, shared-refused, amount-last, amount-0, withdraw-bounds}
 use Rattle.sheet.specs.Calls.{fitsLess}
 use Rattle.sheet.specs.Limits.{mostMarks}
 use Rattle.tables.proofs.Touched.{touched-ext}
