@@ -1,0 +1,57 @@
+-- What `print` writes for 0 to 35,999 seconds is read back by `times` as that number: its minutes are a numeral, and a readable text has one reading.
+use Prim.Native.Nat.{ℕ, zero, suc, _+_, _-_, _/_, _%_, _≤_, _<_}
+use mathlib.Core.Path.{_≡_, refl, sym, subst}
+use mathlib.Core.List.{List, [], _∷_, _++_}
+use native.Mathlib.Omega.{arith}
+use lib.Dec.{ltb}
+use lib.ListN.{length, take, drop}
+use borrow.Author.Tests.{ltb-true, ltb-false}
+use Rattle.times.specs.declared.Time.{Time}
+use Rattle.times.specs.declared.Time.the-variants.{Value}
+use Rattle.times.specs.Texts.{Numeral, minutes, Readable}
+use Rattle.times.specs.Places.{Reads, value}
+use Rattle.times.proofs.Fronts.{numeral-digit, numeral-more, readable}
+use Rattle.times.proofs.Settled.{read-settled}
+use Rattle.print.specs.Texts.{decimal, clock}
+use Rattle.print.specs.Areas.{Wrote}
+use Rattle.print.proofs.Areas.{wrote-there}
+use Rattle.print.proofs.Digits.{by, decimal-small, decimal-step}
+
+small : (n : ℕ) → n < 10 → Numeral (decimal n) n
+small n h =
+    subst (λ (x : List ℕ). Numeral x n) (sym (decimal-small n h))
+    (subst (Numeral ((48 + n) ∷ [])) (omega arith) (numeral-digit (48 + n) (omega arith, omega arith)))
+
+numeral-below : (k n : ℕ) → n ≤ k → Numeral (decimal n) n
+numeral-below zero n l = small n (omega arith)
+numeral-below (suc k) n l =
+    by (ltb n 10)
+    (λ e. small n (ltb-true n 10 e))
+    (λ e.
+    let h = ltb-false n 10 e in
+    subst (λ (x : List ℕ). Numeral x n) (sym (decimal-step n h))
+    (subst (Numeral (decimal (n / 10) ++ (48 + n % 10) ∷ [])) (omega arith)
+    (numeral-more (decimal (n / 10)) (n / 10) (48 + n % 10) (numeral-below k (n / 10) (omega arith)) (omega arith, omega arith) (omega arith))))
+
+pub decimal-numeral : (n : ℕ) → Numeral (decimal n) n
+decimal-numeral n = numeral-below n n (omega arith)
+
+pub clock-readable : (n : ℕ) → n ≤ 35999 → Readable (clock n) n
+unfolding clock
+clock-readable n h =
+    readable (decimal (n / 60)) (n / 60) ((48 + n % 60 / 10) ∷ (48 + n % 60 % 10) ∷ []) n (decimal-numeral (n / 60)) (omega arith)
+    (record {
+      tens = n % 60 / 10;
+      ones = n % 60 % 10;
+      tens-small = omega arith;
+      ones-small = omega arith;
+      rest = [];
+      text = refl;
+      after = minutes (omega arith);
+    })
+
+-- of the text that stands in an area after a call of `put_time`, a call of `read` can give nothing but the number
+pub reads-back : {out later : List ℕ} {at next : ℕ} {time : Time} (n : ℕ) → n ≤ 35999 → at ≤ length out → Wrote out at (clock n) next later
+    → Reads Readable (take (next - at) (drop at later)) time → time ≡ Value n
+reads-back {time = time} n h l w r =
+    read-settled (subst (λ (x : List ℕ). Reads Readable x time) (wrote-there w l) r) (value (clock-readable n h))

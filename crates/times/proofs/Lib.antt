@@ -1,0 +1,6 @@
+pub mod Places
+pub mod Behinds
+pub mod Fronts
+pub mod Settled
+pub mod Words
+pub mod Known

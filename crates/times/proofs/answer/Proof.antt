@@ -1,0 +1,35 @@
+-- The cases of what `read` gave, as `readingOf` sets them out.
+use borrow.Author.Needs.{needs}
+use Prim.Native.Nat.{ℕ}
+use mathlib.Core.Path.{_≡_, sym, ap, _∙_}
+use Rattle.times.specs.declared.Time.the-variants.{Fault}
+use Rattle.times.specs.Answers.{readingOf}
+use Rattle.times.specs.Parts.{placeOf}
+use Rattle.times.proofs.answer.Statement.{statement}
+use Rattle.times.proofs.answer.Tie as tie
+
+read-requires : tie.Need-read-requires
+read-requires c κs = search needs
+
+enum-known-time : tie.Need-enum-known-time
+enum-known-time c = search needs
+
+enum-told : tie.Need-enum-told
+enum-told c = search needs
+
+place-of-requires : tie.Need-place-of-requires
+place-of-requires c κs = search needs
+
+returns : tie.Need-returns
+returns c =
+    let e = c .before .enum-told .given .1 in
+    let q : c .place-of .result ≡ c .before .enum-told .given .0 .0 = c .place-of .ensures ∙ ap placeOf e in
+    record { time = c .before .before .before .read .result; reads = c .before .before .before .read .ensures; is = ap (λ (p : ℕ). readingOf (Fault p)) q ∙ sym (ap readingOf e) }
+
+returns-2 : tie.Need-returns-2
+returns-2 c = record { time = c .before .before .before .read .result; reads = c .before .before .before .read .ensures; is = sym (ap readingOf (c .before .time .given .1)) }
+
+pub answer-spec : {M : Type 1} → statement M
+answer-spec =
+    tie.close
+    (tie.spec read-requires enum-known-time enum-told place-of-requires returns returns-2)
