@@ -2,3 +2,4 @@ pub mod Limits
 pub mod Record
 pub mod Sound
 pub mod Calls
+pub mod Promises

@@ -3,3 +3,4 @@ pub mod Moves
 pub mod Touched
 pub mod Halves
 pub mod Afresh
+pub mod Changes

@@ -1,7 +1,7 @@
 -- A table keeps a number for each box over m marks; it is a list, at least 3^m long. Entries at 3^m and above are no box's.
 use Prim.Native.Nat.{ℕ, zero, suc, _+_, _*_, _-_, _^_, _<_}
 use mathlib.Core.Path.{_≡_}
-use mathlib.Core.Bool.{Bool, true, not, _&&_, _||_}
+use mathlib.Core.Bool.{Bool, true, false, not, _&&_, _||_}
 use mathlib.Core.List.{List, [], _∷_}
 use lib.Dec.{leb, ltb}
 use lib.ListN.{length, getD}
@@ -35,6 +35,12 @@ raised m c d t = tab (length t) (λ b. entry t b + only (contains m b c) d)
 
 abbrev pub lowered : ℕ → ℕ → ℕ → List ℕ → List ℕ
 lowered m c d t = tab (length t) (λ b. entry t b - only (contains m b c) d)
+
+-- two tables that differ in exactly the boxes that contain c, each by d, and in no other entry
+pub record Differ (m c d : ℕ) (low high : List ℕ) : Type 0 where
+  pub long : length low ≡ length high
+  pub touched : (b : ℕ) → b < length low → contains m b c ≡ true → entry high b ≡ entry low b + d
+  pub others : (b : ℕ) → b < length low → contains m b c ≡ false → entry high b ≡ entry low b
 
 -- p holds of each number below n
 unfoldable pub every : ℕ → (ℕ → Bool) → Bool
