@@ -1,20 +1,20 @@
 -- A sheet worked out afresh from a record is sound, and tells the record.
-use Prim.Native.Nat.{ℕ, _+_, _^_, _<_, _≤_}
-use mathlib.Core.Path.{_≡_, refl, sym, _∙_, ap}
+use Prim.Native.Nat.{ℕ, _^_, _<_, _≤_}
+use mathlib.Core.Path.{_≡_, refl, _∙_, ap}
 use mathlib.Core.Bool.{Bool, true, false, not, _&&_}
 use mathlib.Core.List.{List}
 use native.Mathlib.Nat.{one-le-pow}
 use native.Mathlib.Omega.{arith}
-use lib.Dec.{eqb, ltb}
+use lib.Dec.{eqb}
 use borrow.Author.Tests.{lt-ltb, le-ltb}
-use Rattle.boxes.specs.Boxes.{sumIn, allFree}
+use Rattle.boxes.specs.Boxes.{allFree}
 use Rattle.boxes.specs.Sums.{sum, only}
-use Rattle.boxes.proofs.Boxes.{sumIn-all, sumIn-zero}
+use Rattle.boxes.proofs.Boxes.{sumIn-all}
 use Rattle.boxes.proofs.Cases.{below-or, clash}
 use Rattle.tables.specs.Tables.{entry, own, afresh}
 use Rattle.tables.proofs.Entries.{afresh-own, afresh-sums, afresh-entry}
 use Rattle.sheet.specs.Limits.{mostHeld}
-use Rattle.sheet.specs.Record.{Record, outOf, sheetOf, opened}
+use Rattle.sheet.specs.Record.{outOf}
 use Rattle.sheet.specs.Sound.{ClassSound, TimesSound, classOf}
 
 out-one : (e : Bool) → only (not e) 1 ≤ 1

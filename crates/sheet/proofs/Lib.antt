@@ -3,4 +3,7 @@ pub mod Answers
 pub mod Opening
 pub mod Classes
 pub mod Kept
-pub mod Calls
+pub mod Alters
+pub mod Keeps
+pub mod Above
+pub mod Settled

@@ -4,7 +4,7 @@ ghost use mathlib.Core.Path.{_≡_};
 ghost use mathlib.Core.Bool.{true, false};
 ghost use Prim.Native.Nat.{_≤_};
 ghost use Rattle.tables.specs.Tables.{entry, afresh};
-ghost use Rattle.sheet.specs.Limits.{mostMarks, entries};
+ghost use Rattle.sheet.specs.Limits.{mostMarks, entries, mostHeld, mostAmount};
 ghost use Rattle.sheet.specs.Record.{sheetFrom, sheetOf, opened, Addable};
 ghost use Rattle.sheet.specs.Calls.{openOf, changeOf, receiveOf, withdrawOf, ClassSize};
 
@@ -50,6 +50,11 @@ impl Sheet {
     pub const MOST_HELD: u32 = 4_000_000_000;
 
     pub const MOST_AMOUNT: u64 = 35_999;
+
+    // The constants are the numbers of the definitions.
+    pub fn limits()
+        ensures { λ r. do ⌜ ((← ⟦Sheet::MOST_MARKS⟧ .entry) ≡ mostMarks) × ((← ⟦Sheet::ENTRIES⟧ .entry) ≡ entries) × ((← ⟦Sheet::MOST_HELD⟧ .entry) ≡ mostHeld) × ((← ⟦Sheet::MOST_AMOUNT⟧ .entry) ≡ mostAmount) ⌝ }
+    {}
 
     // The sheet worked out afresh from what each combination adds to the outside counts, and the seconds that it holds.
     pub fn afresh(m: usize, outs: &[u32], times: &[u32]) -> Sheet

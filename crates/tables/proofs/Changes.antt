@@ -29,11 +29,11 @@ pub lowered-differ : (m c d : ℕ) (t : List ℕ) → ((b : ℕ) → contains m 
 lowered-differ m c d t fit = record {
   long = tab-length (length t) _;
   touched = λ b l e.
-    let low : entry (lowered m c d t) b ≡ entry t b - d = tab-entry (length t) _ b (omega (arith, tab-length (length t) (λ x. entry t x - only (contains m x c) d))) ∙ ap (λ (x : Bool). entry t b - only x d) e in
-    omega (arith, fit b e);
+      let low : entry (lowered m c d t) b ≡ entry t b - d = tab-entry (length t) _ b (omega (arith, tab-length (length t) (λ x. entry t x - only (contains m x c) d))) ∙ ap (λ (x : Bool). entry t b - only x d) e in
+      omega (arith, fit b e);
   others = λ b l e.
-    let low : entry (lowered m c d t) b ≡ entry t b - 0 = tab-entry (length t) _ b (omega (arith, tab-length (length t) (λ x. entry t x - only (contains m x c) d))) ∙ ap (λ (x : Bool). entry t b - only x d) e in
-    omega arith;
+      let low : entry (lowered m c d t) b ≡ entry t b - 0 = tab-entry (length t) _ b (omega (arith, tab-length (length t) (λ x. entry t x - only (contains m x c) d))) ∙ ap (λ (x : Bool). entry t b - only x d) e in
+      omega arith;
 }
 
 module _ {m c d : ℕ} {low high : List ℕ} (v : Differ m c d low high) where

@@ -16,8 +16,8 @@ pub fn raise(m: usize, c: usize, d: u32, t: &mut [u32])
     requires { ⌜ (m ≤ 8) × (c < 2 ^ m) × (3 ^ m ≤ length (now t)) × ((b : ℕ) → contains m b c ≡ true → entry (now t) b + d < 2 ^ 32) ⌝ }
     ensures { λ r. ⌜ now (t .exit) ≡ raised m c d (now (t .entry)) ⌝ }
 {
-    let n = boxes::power2(m);
-    for k in 0..n {
+    let turns = boxes::power2(m);
+    for k in 0..turns {
         let b = boxes::through(m, c, k);
         t[b] = t[b] + d;
     }

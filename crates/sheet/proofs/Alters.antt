@@ -1,29 +1,15 @@
--- What every call does to any sheet: an accepted change alters exactly the boxes that contain its combination; soundness is kept whatever the
--- answer; entries at 3^m and above are neither read nor changed; and no two answers meet a call's contract.
-use Prim.Native.Nat.{ℕ, zero, suc, _+_, _-_, _^_, _<_, _≤_}
-use mathlib.Core.Path.{_≡_, refl, sym, _∙_, ap, ap₂, subst}
-use mathlib.Core.Bool.{Bool, true, false, not, cond, _&&_, _||_}
-use mathlib.Core.List.{List}
+-- One accepted change alters the entries of exactly the boxes that contain its combination, whatever the sheet.
+use Prim.Native.Nat.{ℕ}
+use mathlib.Core.Path.{_≡_, refl, sym, ap, subst}
+use mathlib.Core.Bool.{Bool, true, false, cond}
 use native.Mathlib.Omega.{arith}
-use native.Mathlib.Nat.{one-le-pow}
-use lib.Dec.{eqb, leb, ltb}
-use lib.ListN.{length}
 use borrow.Author.Tests.{ne-eqb}
-use Rattle.boxes.specs.Boxes.{contains, single, allFree, freeCount}
-use Rattle.boxes.proofs.Boxes.{contains-all, contains-box}
 use Rattle.boxes.proofs.Cases.{same-or}
-use Rattle.boxes.proofs.Choices.{through-lt}
-use Rattle.tables.specs.Tables.{entry, own, raised, lowered, touched, Differ}
-use Rattle.tables.proofs.Changes.{raised-differ, lowered-differ, differ-entry, differ-own, differ-here, raises-sums, lowers-sums}
-use Rattle.tables.proofs.Touched.{touched-ext}
+use Rattle.tables.proofs.Changes.{raised-differ, lowered-differ}
 use Rattle.sheet.specs.declared.Sheet.{Sheet}
-use Rattle.sheet.specs.declared.Answer.{Answer}
-use Rattle.sheet.specs.Limits.{marksOk, amountOk, mostHeld}
-use Rattle.sheet.specs.Record.{sheetOf, opened}
-use Rattle.sheet.specs.Sound.{ClassSound, TimesSound}
-use Rattle.sheet.specs.Calls.{answered, standing, fitsMoved, fitsMore, fitsLess, changeNo, changed, changeOf, amountNo, receiveNo, received, receiveOf, withdrawNo, withdrawn, withdrawOf}
-use Rattle.sheet.specs.Promises.{Long, Agree, OneInClass, SecondsIn, BothSound}
-use Rattle.sheet.proofs.Tests.{changes, Changes, accepted, Moves, amount-some, enter-fits, leave-fits, receive-fits, withdraw-fits}
+use Rattle.sheet.specs.Calls.{answered, changed, changeOf, received, receiveOf, withdrawn, withdrawOf}
+use Rattle.sheet.specs.Promises.{OneInClass, SecondsIn}
+use Rattle.sheet.proofs.Tests.{changes, accepted, amount-some, enter-fits, withdraw-fits}
 
 -- an answer of 0 leaves the new sheet, any other the old one
 
@@ -35,8 +21,6 @@ by-answer P n old new o w =
 
 pub done-sheet : (n : ℕ) (old new : Sheet) → n ≡ 0 → answered n old new .sheet ≡ new
 done-sheet n old new z = ap (λ (k : ℕ). answered k old new .sheet) z
-
--- one accepted change alters the entries of exactly the boxes that contain its combination
 
 pub enter-alters : (most : ℕ) (s : Sheet) (c : ℕ) → changeOf most true s c .number ≡ 0 → OneInClass c (changeOf most true s c .sheet) s
 enter-alters most s c z =
