@@ -3,30 +3,28 @@
 use mathlib.Core.Path.{_≡_, refl, sym, ap, _∙_, subst, fun-ext}
 use mathlib.Core.Bool.{Bool, true, false, not, _&&_, and-false}
 use mathlib.Core.List.{List, [], _∷_}
-use Prim.Native.Nat.{ℕ, zero, suc, _+_, _*_, _/_, _%_, _^_, _<_, _≤_, zero-le}
+use Prim.Native.Nat.{ℕ, zero, suc, _+_, _*_, _/_, _%_, _^_, _<_, _≤_, zero-le, max}
 use native.Mathlib.Nat.{pow-suc, le-refl}
 use native.Mathlib.Omega.{arith}
 use lib.Dec.{eqb, ltb, lit<}
 use lib.ListN.{length}
 use borrow.Author.Tests.{eq-eqb, ne-eqb, eqb-true, eqb-false, lt-ltb, le-ltb, ltb-true}
-use Rattle.boxes.specs.Boxes.{contains, through, single}
+use Rattle.boxes.specs.Boxes.{agrees, contains, through, single}
 use Rattle.boxes.proofs.Cases.{if, below-or, same-or, and-left, and-right}
-use Rattle.boxes.proofs.Choices.{through-lt, through-has, single-only, pair-is}
+use Rattle.boxes.proofs.Choices.{through-lt, single-contains}
 use Rattle.lists.specs.Lists.{Fits}
 use Rattle.lists.proofs.Count.{clash}
 use Rattle.lists.proofs.Fit.{less, Inside, fits-cons, fits-none, fits-room}
 use Rattle.lists.proofs.Lay.{Small}
 
--- tests that hold in the same cases are one
-both-ways : (x y : Bool) → (x ≡ true → y ≡ true) → (y ≡ true → x ≡ true) → x ≡ y
-both-ways true y f g = sym (f refl)
-both-ways false true f g = g refl
-both-ways false false f g = refl
-
-pub single-is : (m c d : ℕ) → c < 2 ^ m → contains m (single m c) d ≡ eqb d c
-single-is m c d h = both-ways _ _
-    (λ e. eq-eqb d c (single-only m c d h e))
-    (λ e. ap (contains m (single m c)) (eqb-true d c e) ∙ through-has m c 0 h)
+-- the box of c with mark 0 free contains the combinations that agree with c in the other marks
+pair-contains : (m c d : ℕ) → contains (suc m) (through (suc m) c 1) d ≡ contains m (single m (c / 2)) (d / 2)
+unfolding contains through agrees
+pair-contains m c d =
+    let s = through m (c / 2) 0 in
+    let x : (s * 3 + max (c % 2) 2) % 3 ≡ 2 = omega arith in
+    let q : (s * 3 + max (c % 2) 2) / 3 ≡ s = omega arith in
+    rw (x, q)
 
 module _ (m : ℕ) (need : ℕ → Bool) where
   -- what is needed of the first k pairs
@@ -91,15 +89,15 @@ module _ (m : ℕ) (need : ℕ → Bool) where
       if (need (k * 2))
       (λ a. if (need (k * 2 + 1))
       (λ b. with-box k (through (suc m) (k * 2) 1) (through-lt (suc m) (k * 2) 1)
-      (λ c. pair-is m (k * 2) c ∙ ap (λ (x : ℕ). contains m (single m x) (c / 2)) half ∙ single-is m k (c / 2) h
-      ∙ by-pair k (λ d. eqb (d / 2) k) (λ d e. eqb-true (d / 2) k e) (eq-eqb (k * 2 / 2) k half ∙ sym a) (eq-eqb ((k * 2 + 1) / 2) k (omega arith) ∙ sym b) c) y)
+      (λ c. pair-contains m (k * 2) c ∙ ap (λ (x : ℕ). contains m (single m x) (c / 2)) half ∙ single-contains m k (c / 2) h
+      ∙ by-pair k (λ d. eqb k (d / 2)) (λ d e. sym (eqb-true k (d / 2) e)) (eq-eqb k (k * 2 / 2) (sym half) ∙ sym a) (eq-eqb k ((k * 2 + 1) / 2) (omega arith) ∙ sym b) c) y)
       (λ b. with-box k (single (suc m) (k * 2)) (through-lt (suc m) (k * 2) 0)
-      (λ c. single-is (suc m) (k * 2) c (omega arith)
-      ∙ by-pair k (λ d. eqb d (k * 2)) (λ d e. omega (arith, eqb-true d (k * 2) e)) (eq-eqb (k * 2) (k * 2) refl ∙ sym a) (ne-eqb (k * 2 + 1) (k * 2) (λ z. omega arith) ∙ sym b) c) y))
+      (λ c. single-contains (suc m) (k * 2) c (omega arith)
+      ∙ by-pair k (eqb (k * 2)) (λ d e. omega (arith, eqb-true (k * 2) d e)) (eq-eqb (k * 2) (k * 2) refl ∙ sym a) (ne-eqb (k * 2) (k * 2 + 1) (λ z. omega arith) ∙ sym b) c) y))
       (λ a. if (need (k * 2 + 1))
       (λ b. with-box k (single (suc m) (k * 2 + 1)) (through-lt (suc m) (k * 2 + 1) 0)
-      (λ c. single-is (suc m) (k * 2 + 1) c (omega arith)
-      ∙ by-pair k (λ d. eqb d (k * 2 + 1)) (λ d e. omega (arith, eqb-true d (k * 2 + 1) e)) (ne-eqb (k * 2) (k * 2 + 1) (λ z. omega arith) ∙ sym a) (eq-eqb (k * 2 + 1) (k * 2 + 1) refl ∙ sym b) c) y)
+      (λ c. single-contains (suc m) (k * 2 + 1) c (omega arith)
+      ∙ by-pair k (eqb (k * 2 + 1)) (λ d e. omega (arith, eqb-true (k * 2 + 1) d e)) (ne-eqb (k * 2 + 1) (k * 2) (λ z. omega arith) ∙ sym a) (eq-eqb (k * 2 + 1) (k * 2 + 1) refl ∙ sym b) c) y)
       (λ b. without k (λ c. sym (by-pair k (λ d. false) (λ d e. absurd (clash e refl)) (sym a) (sym b) c)) y))
 
   pairs : (k : ℕ) → k ≤ 2 ^ m → Listed k

@@ -10,7 +10,7 @@ use native.Mathlib.Omega.{arith}
 use lib.ListN.{length}
 use Rattle.boxes.specs.Boxes.{contains, through, freeMarks}
 use Rattle.boxes.proofs.Cases.{below-or}
-use Rattle.boxes.proofs.Choices.{through-lt, through-rises, through-has, through-free, freeMarks-lt}
+use Rattle.boxes.proofs.Choices.{through-lt, through-rises, through-contains, through-free, freeMarks-lt}
 use Rattle.lists.specs.Lists.{covered, Fits, lowestOf, Rising, Smaller, Before, FirstShortest}
 use Rattle.lists.proofs.Fit.{less, Inside, lowest-true, lowest-le, fits-tail, fits-cons, fits-head, fits-none, fronted}
 use Rattle.lists.proofs.Order.{away-rest, rising-tail, rising-cons, head-has}
@@ -125,7 +125,7 @@ module _ (m : ℕ) (need room : ℕ → Bool) where
           pub laid : FirstShortest m need room (through m c t ∷ l)
           laid = record {
             fits = laid-fits;
-            rising = rising-cons m need (through m c t) some-need (ap (contains m (through m c t)) lowest ∙ through-has m c t small) l (away-rest m laid-fits) (rest .rising);
+            rising = rising-cons m need (through m c t) some-need (ap (contains m (through m c t)) lowest ∙ through-contains m c t small) l (away-rest m laid-fits) (rest .rising);
             shortest = λ k f. omega (arith, least k f, size);
             first = laid-first;
           }

@@ -5,3 +5,6 @@ pub mod First
 pub mod Lay
 pub mod Exist
 pub mod Model
+pub mod Known
+pub mod Pottosin
+pub mod Class
