@@ -59,10 +59,11 @@ module _ (m : ℕ) (need : ℕ → Bool) where
   -- a box with just what is needed of pair k
   with-box : (k b : ℕ) → b < 3 ^ suc m → ((c : ℕ) → contains (suc m) b c ≡ ofPair k c) → Listed k → Listed (suc k)
   with-box k b lt is y =
-      let e : upto k ≡ less (suc m) (upto (suc k)) b = fun-ext (λ c. sym (ap (λ (x : Bool). upto (suc k) c && not x) (is c) ∙ upto-less k c)) in
-      (b ∷ y .0,
-       fits-cons (suc m) lt (λ c t. upto-pair k c (sym (is c) ∙ t)) (subst (λ (p : ℕ → Bool). Fits (suc m) p p (y .0)) e (y .1)),
-       omega (arith, y .2))
+      let e : upto k ≡ less (suc m) (upto (suc k)) b = fun-ext (λ c. sym (ap (λ (x : Bool). upto (suc k) c && not x) (is c) ∙ upto-less k c)) in (
+        b ∷ y .0,
+        fits-cons (suc m) lt (λ c t. upto-pair k c (sym (is c) ∙ t)) (subst (λ (p : ℕ → Bool). Fits (suc m) p p (y .0)) e (y .1)),
+        omega (arith, y .2),
+      )
 
   -- nothing of pair k is needed
   without : (k : ℕ) → ((c : ℕ) → ofPair k c ≡ false) → Listed k → Listed (suc k)
@@ -120,10 +121,14 @@ module _ (m : ℕ) (need : ℕ → Bool) where
 pub exists : (m : ℕ) (need room : ℕ → Bool) → Small m need → ((c : ℕ) → need c ≡ true → room c ≡ true) → (l : List ℕ) × Fits m need room l × (length l ≤ 2 ^ m)
 unfolding contains
 exists zero need room s h = if (need 0)
-    (λ e. (0 ∷ [], fits-cons zero (lit< tt) (λ c t. let z = eqb-true c 0 t in ap room z ∙ h 0 e)
-    (fits-none zero _ _ (λ c t.
-    let z : c ≡ 0 = omega (arith, s c (and-left _ _ t)) in
-    clash (and-right (need c) _ t) (ap (λ (x : ℕ). not (eqb x 0)) z))), omega arith))
+    (λ e. (
+      0 ∷ [],
+      fits-cons zero (lit< tt) (λ c t. let z = eqb-true c 0 t in ap room z ∙ h 0 e)
+          (fits-none zero _ _ (λ c t.
+          let z : c ≡ 0 = omega (arith, s c (and-left _ _ t)) in
+          clash (and-right (need c) _ t) (ap (λ (x : ℕ). not (eqb x 0)) z))),
+      omega arith,
+    ))
     (λ e. ([], fits-none zero need room (λ c t. let z : c ≡ 0 = omega (arith, s c t) in clash t (ap need z ∙ e)), zero-le))
 exists (suc m) need room s h =
     let y = half-exists m need s in

@@ -8,3 +8,4 @@ pub mod Model
 pub mod Known
 pub mod Pottosin
 pub mod Class
+pub mod Compare
