@@ -96,7 +96,12 @@ module _ (m : ℕ) where
       inside = λ c t. if (room c) (λ e. e) (λ e. absurd (omega (arith, covered-times l c t, f .inside c e)));
     }
 
-  -- the sums of boxes that share nothing are together the sum over what they cover
+  -- the sums of boxes that share nothing are together the sum over what they cover, over the first n combinations
+  pub lines-upto : (n : ℕ) (l : List ℕ) (f : ℕ → ℕ) → Apart m l
+      → sumOver l (λ b. sum n (λ c. only (contains m b c) (f c))) ≡ sum n (λ c. only (covered m l c) (f c))
+  lines-upto n l f a = sum-exchange n l (λ b c. only (contains m b c) (f c)) ∙ sum-ext n _ _ (λ c h. apart-sum l c (f c) a)
+
+  -- and over all
   pub lines-sum : (l : List ℕ) (f : ℕ → ℕ) → Apart m l → sumOver l (λ b. sumIn m b f) ≡ sum (2 ^ m) (λ c. only (covered m l c) (f c))
   unfolding sumIn
-  lines-sum l f a = sum-exchange (2 ^ m) l (λ b c. only (contains m b c) (f c)) ∙ sum-ext (2 ^ m) _ _ (λ c h. apart-sum l c (f c) a)
+  lines-sum = lines-upto (2 ^ m)

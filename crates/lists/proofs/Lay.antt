@@ -24,13 +24,13 @@ abbrev pub Small : ℕ → (ℕ → Bool) → Type 0
 Small m need = (c : ℕ) → need c ≡ true → c < 2 ^ m
 
 module _ (m : ℕ) (need room : ℕ → Bool) where
-  none-needed : Small m need → 2 ^ m ≤ lowestOf m need → (c : ℕ) → need c ≡ true → ⊥
+  pub none-needed : Small m need → 2 ^ m ≤ lowestOf m need → (c : ℕ) → need c ≡ true → ⊥
   none-needed s h c e = omega (arith, lowest-le m need c e (s c e), s c e)
 
   -- nothing is needed: the empty list is the first shortest
-  pub first-empty : Small m need → 2 ^ m ≤ lowestOf m need → FirstShortest m need room []
+  pub first-empty : ((c : ℕ) → need c ≡ true → ⊥) → FirstShortest m need room []
   unfolding Rising
-  first-empty s h = record { fits = fits-none m need room (none-needed s h); rising = tt; shortest = λ k f. zero-le; first = λ k f r. empty k }
+  first-empty none = record { fits = fits-none m need room none; rising = tt; shortest = λ k f. zero-le; first = λ k f r. empty k }
     where
       empty : (k : List ℕ) → ([] ≡ k) ⊎ Before [] k
       empty [] = inl refl

@@ -18,7 +18,7 @@ use Rattle.boxes.proofs.Choices.{through-lt}
 use Rattle.lists.specs.Lists.{Fits, lowestOf, FirstShortest}
 use Rattle.lists.proofs.Count.{clash}
 use Rattle.lists.proofs.Fit.{less, Inside, lowest-true, lowest-le}
-use Rattle.lists.proofs.Lay.{AtLeast, Small, first-empty, some-box, Tried, tried-none, tried-next, longer-out, longer-deep, least-rest, laid, tried-all}
+use Rattle.lists.proofs.Lay.{AtLeast, Small, none-needed, first-empty, some-box, Tried, tried-none, tried-next, longer-out, longer-deep, least-rest, laid, tried-all}
 use Rattle.lists.proofs.Exist.{exists}
 
 -- what finds a list of given boxes for what is needed, in a room
@@ -100,7 +100,7 @@ module _ (m : ℕ) where
   empty-right : (left : ℕ) (need room : ℕ → Bool) → Small m need → AtLeast m need room left → 2 ^ m ≤ lowestOf m need → Right m need room left (some [])
   unfolding Right
   empty-right left need room s least h =
-      let f = first-empty m need room s h in
+      let f = first-empty m need room (none-needed m need room s h) in
       (f, omega (arith, least [] (f .fits)))
 
   seeking-right : (left : ℕ) (need room : ℕ → Bool) → Small m need → AtLeast m need room left → Right m need room left (seeking m left need room)
