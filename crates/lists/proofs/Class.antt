@@ -1,9 +1,9 @@
 -- Where all that has room is needed, a class put for both: a box inside the class has its own lowest combination as the lowest needed one,
 -- so that `Rising` is 'in rising order of each box's lowest combination'. (The boxes of a fitting list are inside the class: `fits-independent`.)
-use mathlib.Core.Path.{_≡_, sym, ap, _∙_}
-use mathlib.Core.Bool.{Bool, true, false, _&&_, and-false}
+use mathlib.Core.Path.{_≡_}
+use mathlib.Core.Bool.{Bool, _&&_, and-false}
 use mathlib.Core.List.{List, [], _∷_}
-use Prim.Native.Nat.{ℕ, _^_, _<_, _≤_}
+use Prim.Native.Nat.{ℕ, _<_}
 use native.Mathlib.Omega.{arith}
 use Rattle.boxes.specs.Boxes.{contains, lowest}
 use Rattle.boxes.proofs.Cases.{if}

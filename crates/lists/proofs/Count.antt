@@ -1,7 +1,7 @@
 -- The counting form of a fitting list: how many boxes contain a combination. Of boxes that share nothing at most one does, so that what they
 -- hold of a combination, added up over the list, is what it has where it is covered.
 use mathlib.Core.Path.{_≡_, refl, sym, _∙_}
-use mathlib.Core.Bool.{Bool, true, false, _||_, true≢false, false≢true}
+use mathlib.Core.Bool.{Bool, true, false, true≢false, false≢true}
 use mathlib.Core.List.{List, [], _∷_}
 use Prim.Native.Nat.{ℕ, _+_, _^_, _≤_}
 use native.Mathlib.Omega.{arith}

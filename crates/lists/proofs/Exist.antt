@@ -8,13 +8,13 @@ use native.Mathlib.Nat.{pow-suc, le-refl}
 use native.Mathlib.Omega.{arith}
 use lib.Dec.{eqb, ltb, lit<}
 use lib.ListN.{length}
-use borrow.Author.Tests.{eq-eqb, ne-eqb, eqb-true, eqb-false, lt-ltb, le-ltb, ltb-true}
+use borrow.Author.Tests.{eq-eqb, ne-eqb, eqb-true, lt-ltb, le-ltb}
 use Rattle.boxes.specs.Boxes.{agrees, contains, through, single}
 use Rattle.boxes.proofs.Cases.{if, below-or, same-or, and-left, and-right}
 use Rattle.boxes.proofs.Choices.{through-lt, single-contains}
 use Rattle.lists.specs.Lists.{Fits}
 use Rattle.lists.proofs.Count.{clash}
-use Rattle.lists.proofs.Fit.{less, Inside, fits-cons, fits-none, fits-room}
+use Rattle.lists.proofs.Fit.{less, fits-cons, fits-none, fits-room}
 use Rattle.lists.proofs.Lay.{Small}
 
 -- the box of c with mark 0 free contains the combinations that agree with c in the other marks

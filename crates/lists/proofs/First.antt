@@ -1,11 +1,10 @@
 -- Of two lists one is before the other or they are equal, and never both: so at most one list is the first shortest.
-use mathlib.Core.Path.{_≡_, refl, sym, ap, _∙_}
+use mathlib.Core.Path.{_≡_, sym}
 use mathlib.Core.Bool.{Bool}
 use mathlib.Core.List.{List, [], _∷_}
 use mathlib.Core.Logic.{_⊎_, inl, inr}
-use Prim.Native.Nat.{ℕ, suc, _<_, _≤_}
+use Prim.Native.Nat.{ℕ}
 use native.Mathlib.Omega.{arith}
-use lib.ListN.{length}
 use Rattle.lists.specs.Lists.{Smaller, Before, FirstShortest}
 
 smaller-not : (l k : List ℕ) → Smaller l k → Smaller k l → ⊥

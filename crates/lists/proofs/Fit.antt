@@ -10,7 +10,7 @@ use Rattle.boxes.specs.Boxes.{contains}
 use Rattle.boxes.specs.Sums.{sumOver}
 use Rattle.boxes.proofs.Cases.{if, below-or, and-left, and-right}
 use Rattle.lists.specs.Lists.{Boxes, covered, Apart, Fits, firstFrom, lowestOf}
-use Rattle.lists.proofs.Count.{clash, times, Counted, times-out, covered-in, covered-out, counted, fits-counted}
+use Rattle.lists.proofs.Count.{clash, times, covered-in, covered-out, counted, fits-counted}
 
 -- ---- the first number in a set
 pub first-hit : (p : ℕ → Bool) (k f : ℕ) → p f ≡ true → firstFrom p (suc k) f ≡ f

@@ -5,14 +5,14 @@ use mathlib.Core.Bool.{Bool, true, false, false≢true}
 use mathlib.Core.List.{List, [], _∷_, List·Memᴰ, List·Memᴰ·head, List·Memᴰ·tail, List·Memᴰ·not-nil, List·Memᴰ·cases-cons}
 use mathlib.Core.Logic.{_↔_, ⊎-elim}
 use mathlib.Core.Path.{refl}
-use Prim.Native.Nat.{ℕ, _^_, _<_, _≤_}
+use Prim.Native.Nat.{ℕ}
 use lib.ListN.{length}
 use borrow.Author.Tests.{eqb-true}
 use Rattle.boxes.specs.Boxes.{contains, lowest, single}
 use Rattle.boxes.proofs.Cases.{if}
 use Rattle.boxes.proofs.Choices.{through-lt, through-contains, single-contains, lowest-contained}
 use Rattle.lists.specs.Lists.{Boxes, covered, Apart, Fits, FirstShortest}
-use Rattle.lists.specs.Pottosin.{Interval, Joined, Free, Independent, Maximal, SmallestMaximal}
+use Rattle.lists.specs.Pottosin.{Independent, Maximal, SmallestMaximal}
 use Rattle.lists.proofs.Count.{clash, covered-in, covered-out}
 use Rattle.lists.proofs.Lay.{Small, AtLeast}
 

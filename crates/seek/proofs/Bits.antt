@@ -1,7 +1,7 @@
 -- Sets of combinations as numbers, a bit for each: what `&`, `!` and `trailing_zeros` do to them, bit by bit.
 use mathlib.Core.Path.{_≡_, refl, sym, ap, _∙_, fun-ext}
 use mathlib.Core.Bool.{Bool, true, false, not, _&&_}
-use Prim.Native.Nat.{ℕ, zero, suc, _+_, _-_, _/_, _%_, _^_, _<_, _≤_, min}
+use Prim.Native.Nat.{ℕ, zero, suc, _-_, _/_, _%_, _^_, _<_, _≤_, min}
 use native.Mathlib.Nat.{pow-suc, not-suc-le-zero, div-one}
 use native.Mathlib.Numerals.{one-add}
 use native.Mathlib.Omega.{arith}
@@ -9,10 +9,10 @@ use lib.Arith.{bin-ind}
 use lib.Bits.{bitAnd, and-step}
 use lib.Count.{under, trailingZeros}
 use lib.Dec.{eqb}
-use lib.Pow.{pow-mono, shr-shr}
+use lib.Pow.{shr-shr}
 use borrow.Author.Tests.{eqb-true, eqb-false, eq-eqb, ne-eqb}
 use Rattle.boxes.specs.Boxes.{contains}
-use Rattle.boxes.proofs.Cases.{if, below-or, mark, and-left, and-right}
+use Rattle.boxes.proofs.Cases.{if, below-or, mark, and-right}
 use Rattle.lists.specs.Lists.{lowestOf}
 use Rattle.lists.proofs.Count.{clash}
 use Rattle.lists.proofs.Fit.{less, Inside, lowest-is}

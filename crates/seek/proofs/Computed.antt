@@ -8,12 +8,11 @@ use native.Mathlib.Omega.{arith}
 use lib.Dec.{eqb, ltb, lit<}
 use lib.ListN.{length, getD}
 use lib.Pow.{pow-mono}
-use borrow.Author.Tests.{ltb-true, eqb-true, not-true}
+use borrow.Author.Tests.{ltb-true, eqb-true}
 use Rattle.boxes.specs.Boxes.{agrees, contains, through, single}
 use Rattle.boxes.proofs.Cases.{if, below-or, and-left, and-right}
 use Rattle.boxes.proofs.Boxes.{contains-combination}
 use Rattle.boxes.proofs.Choices.{contains-wide, through-wide}
-use Rattle.lists.proofs.Count.{clash}
 use Rattle.seek.specs.Answer.{has}
 use Rattle.seek.specs.Steps.{Sets, Terns}
 use Rattle.seek.proofs.Bits.{has-high}

@@ -3,11 +3,11 @@
 use mathlib.Core.Path.{_≡_, refl, sym, ap, _∙_}
 use mathlib.Core.Bool.{Bool}
 use mathlib.Core.List.{List, []}
-use Prim.Native.Nat.{ℕ, _+_, _^_, _<_, _≤_}
+use Prim.Native.Nat.{ℕ, _^_, _<_}
 use native.Mathlib.Omega.{arith}
 use lib.ListN.{length, take}
 use lib.Seq.{length-take-le}
-use Rattle.lists.specs.Lists.{Fits, FirstShortest}
+use Rattle.lists.specs.Lists.{Fits}
 use Rattle.lists.proofs.Fit.{fits-small}
 use Rattle.lists.proofs.First.{unique}
 use Rattle.lists.proofs.Lay.{AtLeast, Small}

@@ -1,21 +1,20 @@
 -- One turn of the search at the combination c: the box b of turn t, whose set is s, is passed over or laid.
-use mathlib.Core.Path.{_≡_, refl, sym, ap, ap₂, _∙_, subst}
+use mathlib.Core.Path.{_≡_, ap, _∙_, subst}
 use mathlib.Core.Bool.{Bool, true, false, true≢false, false≢true}
 use mathlib.Core.List.{List, [], _∷_, _++_}
-use Prim.Native.Nat.{ℕ, zero, suc, _+_, _-_, _^_, _<_, _≤_, zero-le}
+use Prim.Native.Nat.{ℕ, _+_, _-_, _^_, _<_, _≤_}
 use native.Mathlib.Nat.{not-suc-le-zero}
 use native.Mathlib.Numerals.{add-one}
 use native.Mathlib.Omega.{arith}
 use lib.Bits.{bitAnd, and-le-l}
 use lib.Count.{trailingZeros}
-use lib.ListN.{length, take, set, length-take}
+use lib.ListN.{length, take, set}
 use lib.Pow.{pow-mono}
 use lib.Seq.{take-append-le, length-take-le}
 use Rattle.boxes.specs.Sums.{sumOver}
-use Rattle.boxes.specs.Boxes.{contains, through}
+use Rattle.boxes.specs.Boxes.{through}
 use Rattle.boxes.proofs.Cases.{below-or}
-use Rattle.boxes.proofs.Choices.{through-lt}
-use Rattle.lists.specs.Lists.{Fits, lowestOf, FirstShortest}
+use Rattle.lists.specs.Lists.{lowestOf, FirstShortest}
 use Rattle.lists.proofs.Count.{clash}
 use Rattle.lists.proofs.Fit.{less, Inside, fits-cons}
 use Rattle.lists.proofs.Lay.{AtLeast, Tried, Longer, tried-next, longer-out, longer-deep, least-rest, laid, first-empty, some-box, tried-all}

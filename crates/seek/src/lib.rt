@@ -1,6 +1,6 @@
 // The search for the first shortest list. Sets of combinations are numbers, a bit for each combination.
 ghost use mathlib.Core.Path.{_≡_};
-ghost use Prim.Native.Nat.{ℕ, _+_, _*_, _-_, _^_, _≤_, _<_};
+ghost use Prim.Native.Nat.{_+_, _*_, _-_, _^_, _≤_, _<_};
 ghost use lib.ListN.{length};
 ghost use Rattle.boxes.specs.Boxes.{through};
 ghost use Rattle.lists.specs.Lists.{lowestOf};
@@ -77,17 +77,10 @@ fn try_boxes(
             let k = costs[b];
             if k <= spare {
                 area[0] = b as u8;
-                if cover(
-                    m,
-                    sets,
-                    terns,
-                    costs,
-                    need & !s,
-                    room & !s,
-                    left,
-                    spare - k,
-                    &mut area[1..],
-                ) {
+                let due = need & !s;
+                let free = room & !s;
+                let rest = spare - k;
+                if cover(m, sets, terns, costs, due, free, left, rest, &mut area[1..]) {
                     return true;
                 }
             }

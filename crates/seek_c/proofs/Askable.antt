@@ -1,8 +1,8 @@
 -- The tests of the C entry are what the search asks, and its answer is carried over.
-use mathlib.Core.Path.{_≡_, refl, sym, ap, _∙_, subst}
+use mathlib.Core.Path.{_≡_, subst}
 use mathlib.Core.Bool.{Bool}
 use mathlib.Core.List.{List}
-use Prim.Native.Nat.{ℕ, suc, _+_, _/_, _^_, _<_, _≤_}
+use Prim.Native.Nat.{ℕ, _+_, _/_, _^_, _<_, _≤_}
 use native.Mathlib.Nat.{div-eq-of-lt, div-lt-iff-lt-mul, one-mul}
 use native.Mathlib.Numerals.{add-one}
 use native.Mathlib.Omega.{arith}
@@ -11,7 +11,7 @@ use lib.Pow.{pow-pos, pow-mono}
 use Rattle.seek.specs.declared.Found.{Found}
 use Rattle.seek.specs.declared.Found.the-variants.{Boxes, Nothing}
 use Rattle.seek.specs.Answer.{has, Sought}
-use Rattle.seek_c.specs.Told.{Askable, told, Told}
+use Rattle.seek_c.specs.Told.{Askable, Told}
 
 -- nothing is left after a shift by n exactly if the number is below 2 ^ n
 pub shifted-out : (a n : ℕ) → a / 2 ^ n ≡ 0 → a < 2 ^ n

@@ -1,5 +1,5 @@
 -- `is_before` says whether the second is before the first, and the reference itself is returned.
-use mathlib.Core.Path.{refl, sym, _∙_}
+use mathlib.Core.Path.{refl}
 use borrow.Author.Needs.{needs}
 use Rattle.lists.proofs.Count.{clash}
 use Rattle.lists.proofs.before.Statement.{statement}

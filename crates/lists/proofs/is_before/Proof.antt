@@ -1,6 +1,6 @@
 -- As many places as the loop has passed are equal, so that the rest says which list is the smaller.
 use Prim.Native.Nat.{_≤_, _-_}
-use mathlib.Core.Path.{_≡_, sym}
+use mathlib.Core.Path.{_≡_}
 use native.Mathlib.Omega.{arith}
 use lib.ListN.{length}
 use Rattle.lists.proofs.Compare.{RestSays, rest-start, place-less, place-more, place-same, rest-end, yes-shorter, no-longer, yes-smaller, no-smaller}

@@ -1,6 +1,6 @@
 -- The cycle. `cover` at `left` boxes calls `try_boxes` at one less, which calls `cover` at that: the measures are twice `left`, and one more. The loop
 -- over the boxes through c holds that none of those passed leads to a list of so many boxes.
-use mathlib.Core.Path.{_≡_, refl, sym, ap, _∙_}
+use mathlib.Core.Path.{_≡_, refl, ap, _∙_}
 use mathlib.Core.Logic.{⊎-elim}
 use Prim.Native.Nat.{ℕ, _<_, _≤_, _+_, _-_, _^_, zero-le}
 use native.Mathlib.Omega.{arith}
@@ -96,7 +96,7 @@ try-boxes-power2-requires t c κs = let s = c .before in omega (arith, s .pre .1
 try-boxes-loop-holds : (t : ℕ) → try-boxes-lts.Need-loop-holds (calls t) (try-boxes-at t) try-boxes.Post Inv-loop μ-loop
 try-boxes-loop-holds t c =
     let s = c .before .before in
-    (refl, zero-le, c .power2 .ensures .0, c .power2 .ensures .1, tried-none (s .args .m) (has (s .args .need)) (has (s .args .room)) (s .args .left) (s .args .c))
+    (refl, omega arith, c .power2 .ensures .0, c .power2 .ensures .1, tried-none (s .args .m) (has (s .args .need)) (has (s .args .room)) (s .args .left) (s .args .c))
 
 try-boxes-box-on-requires : (t : ℕ) → try-boxes-lts.Need-box-on-requires (calls t) (try-boxes-at t) try-boxes.Post Inv-loop μ-loop
 try-boxes-box-on-requires t c κs =
@@ -137,7 +137,7 @@ try-boxes-cover-requires t c κs =
     let y = c .before .before .before .before .before .box-on in (
       omega (arith, s .pre .0),
       (
-        deeper (s .args .m) (s .args .left) (s .args .need) (s .args .room) (s .args .spare) (s .args .sets .now) (s .args .terns .now) (s .args .costs .now) (s .pre .1 .0) (s .fits .room .fits) (s .args .c) (l .t) (y .result) (y .ensures .1) (y .ensures .0) (c .before .before .before .if1 .taken) (c .before .if2 .taken),
+        deeper (s .args .m) (s .args .left) (s .args .need) (s .args .room) (s .args .spare) (s .args .sets .now) (s .args .terns .now) (s .args .costs .now) (s .pre .1 .0) (s .fits .room .fits) (s .args .c) (l .t) (y .result) (y .ensures .1) (y .ensures .0) (c .before .before .before .if1 .taken) (omega (arith, c .before .if2 .taken)),
         simp (length-take, length-drop, length-set) (omega (arith, s .pre .1 .1, l .inv .0)),
       ),
     )

@@ -1,5 +1,4 @@
 -- By the certificate every list has more than k boxes, or the lists of k boxes cost no more than what is to spare.
-use mathlib.Core.Path.{refl}
 use borrow.Author.Needs.{needs}
 use Rattle.seek.specs.Answer.{has}
 use Rattle.seek.proofs.Cost.{too-few, to-spare}

@@ -33,7 +33,7 @@ power2-requires c κs = let s = c .before .before .before .before .before in ome
 loop-holds : tie.Need-loop-holds Inv-loop μ-loop
 loop-holds c =
     let s = c .before .before .before .before .before .before in
-    (refl, zero-le, c .power2 .ensures .0, omega (arith, c .power2 .ensures .0, two-le (s .args .m) (s .pre .0)), λ l f. zero-le)
+    (refl, omega arith, c .power2 .ensures .0, omega (arith, c .power2 .ensures .0, two-le (s .args .m) (s .pre .0)), λ l f. zero-le)
 
 of-size-requires : tie.Need-of-size-requires Inv-loop μ-loop
 of-size-requires c κs =

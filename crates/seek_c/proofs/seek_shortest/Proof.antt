@@ -1,11 +1,7 @@
 -- What is tested is what the search asks; its answer is told by a number.
-use mathlib.Core.Path.{_≡_, refl, ap, _∙_}
-use Prim.Native.Nat.{ℕ, _/_, _^_, _<_, _≤_}
+use mathlib.Core.Path.{refl}
 use native.Mathlib.Omega.{arith}
-use lib.ListN.{length}
 use borrow.Author.Needs.{needs}
-use Rattle.seek.specs.Answer.{has}
-use Rattle.seek_c.specs.Told.{Askable}
 use Rattle.seek_c.proofs.Askable.{shifted-out, shifted-in, two-le, told-boxes, told-nothing, count-le}
 use Rattle.seek_c.proofs.seek_shortest.Statement.{statement}
 use Rattle.seek_c.proofs.seek_shortest.Tie as tie
