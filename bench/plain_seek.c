@@ -4,7 +4,7 @@
 #include <string.h>
 
 static uint32_t sets[243];
-static size_t terns[32], lows[243];
+static size_t singles[32], lows[243];
 static bool ready;
 
 static void tables(void)
@@ -30,7 +30,7 @@ static void tables(void)
         size_t b = 0;
         for (size_t i = 5; i-- > 0;)
             b = b * 3 + (c >> i) % 2;
-        terns[c] = b;
+        singles[c] = b;
     }
     ready = true;
 }
@@ -67,12 +67,12 @@ static size_t leaving(const double *x, const double *d)
     return l;
 }
 
-static size_t entering(uint32_t need, uint32_t room, const double *y, double *v, double *gain)
+static size_t entering(uint32_t need, uint32_t room, const double *y, double *gain)
 {
-    double best = 0.000000001;
+    double v[243] = {0}, best = 0.000000001;
     size_t which = 275;
     for (size_t c = 0; c < 32; c++)
-        v[terns[c]] = y[c];
+        v[singles[c]] = y[c];
     for (size_t b = 0; b < 243; b++) {
         uint32_t s = sets[b];
         if ((s & room) == s) {
@@ -96,10 +96,10 @@ static size_t entering(uint32_t need, uint32_t room, const double *y, double *v,
     return which;
 }
 
-static bool pivot(uint32_t need, uint32_t room, double *inv, double *x, double *y, double *v)
+static bool pivot(uint32_t need, uint32_t room, double *inv, double *x, double *y)
 {
     double gain, d[32] = {0};
-    size_t b = entering(need, room, y, v, &gain);
+    size_t b = entering(need, room, y, &gain);
     if (b < 243) {
         for (size_t c = 0; c < 32; c++)
             if ((sets[b] >> c) % 2 == 1)
@@ -127,7 +127,7 @@ static bool pivot(uint32_t need, uint32_t room, double *inv, double *x, double *
 
 static void solve(uint32_t need, uint32_t room, double seed, double amount, double *sum)
 {
-    double inv[1024] = {0}, x[32], y[32] = {0}, v[243], one = 1.0;
+    double inv[1024] = {0}, x[32], y[32] = {0}, one = 1.0;
     for (size_t c = 0; c < 32; c++) {
         inv[c * 33] = 1.0;
         x[c] = one + amount * seed;
@@ -136,7 +136,7 @@ static void solve(uint32_t need, uint32_t room, double seed, double amount, doub
         if ((need >> c) % 2 == 1)
             y[c] = 1.0;
     }
-    for (int k = 0; k < 200 && pivot(need, room, inv, x, y, v); k++)
+    for (int k = 0; k < 200 && pivot(need, room, inv, x, y); k++)
         ;
     less(sum, y, -1.0);
 }
@@ -149,7 +149,7 @@ static uint32_t parts(double y, double more)
 
 static void propose(uint32_t need, uint32_t room, uint32_t *plus, uint32_t *minus)
 {
-    double sum[32] = {0}, y[32] = {0}, v[243], seed = 0.1, amount = 0.0, starts = 0.0, gain;
+    double sum[32] = {0}, y[32] = {0}, seed = 0.1, amount = 0.0, starts = 0.0, gain;
     for (int r = 0; r < (need == room ? 1 : 6); r++) {
         solve(need, room, seed, amount, sum);
         starts += 1.0;
@@ -157,7 +157,7 @@ static void propose(uint32_t need, uint32_t room, uint32_t *plus, uint32_t *minu
         amount = 0.01;
     }
     less(y, sum, -1.0 / starts);
-    entering(need, room, y, v, &gain);
+    entering(need, room, y, &gain);
     double scale = 1.0 / (1.0 + gain);
     for (size_t c = 0; c < 32; c++) {
         double w = y[c] * scale;
@@ -215,7 +215,7 @@ static bool try_boxes(size_t n, const uint64_t *costs, size_t c, uint32_t need, 
                       uint64_t *laid)
 {
     for (size_t t = 0; t < n; t++) {
-        size_t b = terns[c | t] + terns[t];
+        size_t b = singles[c | t] + singles[t];
         uint32_t s = sets[b];
         if ((s & room) == s && costs[b] <= spare) {
             area[0] = (uint8_t)b;

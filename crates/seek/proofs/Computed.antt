@@ -14,7 +14,7 @@ use Rattle.boxes.proofs.Cases.{if, below-or, and-left, and-right}
 use Rattle.boxes.proofs.Boxes.{contains-combination}
 use Rattle.boxes.proofs.Choices.{contains-wide, through-wide}
 use Rattle.seek.specs.Answer.{has}
-use Rattle.seek.specs.Steps.{Sets, Terns}
+use Rattle.seek.specs.Steps.{Sets, Singles}
 use Rattle.seek.proofs.Bits.{has-high}
 
 abbrev pub sets : List ℕ
@@ -38,8 +38,8 @@ sets =
     84215045 ∷ 168430090 ∷ 252645135 ∷ 269488144 ∷ 538976288 ∷ 808464432 ∷ 1077952576 ∷ 2155905152 ∷ 3233857728 ∷ 1347440720 ∷ 2694881440 ∷
     4042322160 ∷ 286331153 ∷ 572662306 ∷ 858993459 ∷ 1145324612 ∷ 2290649224 ∷ 3435973836 ∷ 1431655765 ∷ 2863311530 ∷ 4294967295 ∷ []
 
-abbrev pub terns : List ℕ
-terns =
+abbrev pub singles : List ℕ
+singles =
     0 ∷ 1 ∷ 3 ∷ 4 ∷ 9 ∷ 10 ∷ 12 ∷ 13 ∷ 27 ∷ 28 ∷ 30 ∷ 31 ∷ 36 ∷ 37 ∷ 39 ∷ 40 ∷ 81 ∷ 82 ∷ 84 ∷ 85 ∷ 90 ∷ 91 ∷ 93 ∷ 94 ∷ 108 ∷ 109 ∷ 111 ∷
     112 ∷ 117 ∷ 118 ∷ 120 ∷ 121 ∷ []
 
@@ -103,16 +103,16 @@ sets-hold m h b l =
     )
 
 -- ---- the boxes of the single combinations
-tern-right : ℕ → ℕ → Bool
-tern-right c x = eqb x (single 5 c)
+single-right : ℕ → ℕ → Bool
+single-right c x = eqb x (single 5 c)
 
-terns-computed : every tern-right 0 terns ≡ true
-unfolding every tern-right through
-terns-computed = refl
+singles-computed : every single-right 0 singles ≡ true
+unfolding every single-right through
+singles-computed = refl
 
-pub terns-hold : (m : ℕ) → m ≤ 5 → Terns m terns
-unfolding tern-right
-terns-hold m h c l =
+pub singles-hold : (m : ℕ) → m ≤ 5 → Singles m singles
+unfolding single-right
+singles-hold m h c l =
     let p : 2 ^ m ≤ 2 ^ 5 = pow-mono h in
-    eqb-true (getD terns c 0) (single 5 c) (table-at tern-right terns c terns-computed (omega arith))
+    eqb-true (getD singles c 0) (single 5 c) (table-at single-right singles c singles-computed (omega arith))
     ∙ through-wide m 5 c 0 h l (omega arith)

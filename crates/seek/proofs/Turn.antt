@@ -34,7 +34,7 @@ reached-no m need room left area true e h = absurd (true≢false e)
 reached-no m need room left area false e h = h
 
 -- ---- the lowest combination that is not covered
-module _ (m left need room spare : ℕ) (sets terns costs : List ℕ) (n : Node m sets terns costs need room left spare) where
+module _ (m left need room spare : ℕ) (sets singles costs : List ℕ) (n : Node m sets singles costs need room left spare) where
   need-wide : need < 2 ^ 32
   need-wide =
       let p : 2 ^ m ≤ 2 ^ 5 = pow-mono (n .marks) in
@@ -58,7 +58,7 @@ module _ (m left need room spare : ℕ) (sets terns costs : List ℕ) (n : Node 
     pub left-lt : trailingZeros 32 need < 2 ^ m
     left-lt = zeros-lt m need need-wide (n .small) some
 
-  pub one-more : (left ≡ 0 → ⊥) → Node m sets terns costs need room (left - 1 + 1) spare
+  pub one-more : (left ≡ 0 → ⊥) → Node m sets singles costs need room (left - 1 + 1) spare
   one-more h = let e : left ≡ left - 1 + 1 = omega arith in rw (← e) n
 
 -- ---- a turn
@@ -67,11 +67,11 @@ put-front : (xs ys zs : List ℕ) (b k : ℕ) → 0 < length xs → k ≤ length
 put-front [] ys zs b k h g = absurd (not-suc-le-zero h)
 put-front (x ∷ xs) ys zs b k h g = rw (add-one k) (ap (λ (l : List ℕ). b ∷ l) (take-append-le k ys zs g))
 
-module _ (m left need room spare : ℕ) (sets terns costs : List ℕ) (n : Node m sets terns costs need room (left + 1) spare) (hr : room < 2 ^ 32)
+module _ (m left need room spare : ℕ) (sets singles costs : List ℕ) (n : Node m sets singles costs need room (left + 1) spare) (hr : room < 2 ^ 32)
     (c t b : ℕ) (lt : b < 3 ^ m) (is : b ≡ through m c t) where
   -- the sets that are handed on are those less the box
   rest-need : has (bitAnd need (4294967295 - entry sets b)) ≡ less m (has need) b
-  rest-need = has-less m b (entry sets b) (n .of-boxes b lt .1) need (need-wide m (left + 1) need room spare sets terns costs n) (n .of-boxes b lt .0)
+  rest-need = has-less m b (entry sets b) (n .of-boxes b lt .1) need (need-wide m (left + 1) need room spare sets singles costs n) (n .of-boxes b lt .0)
 
   rest-room : has (bitAnd room (4294967295 - entry sets b)) ≡ less m (has room) b
   rest-room = has-less m b (entry sets b) (n .of-boxes b lt .1) room hr (n .of-boxes b lt .0)
@@ -94,7 +94,7 @@ module _ (m left need room spare : ℕ) (sets terns costs : List ℕ) (n : Node 
 
     -- what is left where the box is laid
     pub deeper : entry costs b ≤ spare
-        → Node m sets terns costs (bitAnd need (4294967295 - entry sets b)) (bitAnd room (4294967295 - entry sets b)) left (spare - entry costs b)
+        → Node m sets singles costs (bitAnd need (4294967295 - entry sets b)) (bitAnd room (4294967295 - entry sets b)) left (spare - entry costs b)
     unfolding sumOver
     deeper h = record {
       marks = n .marks;
@@ -123,8 +123,8 @@ module _ (m left need room spare : ℕ) (sets terns costs : List ℕ) (n : Node 
         (length-take-le left ys hy))
 
 -- no box through c leads to a list
-pub turns-end : (m left need room spare : ℕ) (sets terns costs : List ℕ) → Node m sets terns costs need room (left + 1) spare
+pub turns-end : (m left need room spare : ℕ) (sets singles costs : List ℕ) → Node m sets singles costs need room (left + 1) spare
     → (c t : ℕ) → lowestOf m (has need) ≡ c → c < 2 ^ m → 2 ^ m ≤ t → Tried m (has need) (has room) left c t → AtLeast m (has need) (has room) (left + 1 + 1)
-turns-end m left need room spare sets terns costs n c t lowest small h tried l f =
+turns-end m left need room spare sets singles costs n c t lowest small h tried l f =
     let g = tried-all m (has need) (has room) left (n .least) c lowest small (λ u q. tried u (omega (arith, q, h))) l f in
     omega (arith, g)

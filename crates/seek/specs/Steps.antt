@@ -18,8 +18,8 @@ abbrev pub Sets : ℕ → List ℕ → Type 0
 Sets m xs = (b : ℕ) → b < 3 ^ m → (entry xs b < 2 ^ 32) × ((c : ℕ) → has (entry xs b) c ≡ contains m b c)
 
 -- the table holds the box of each single combination over m marks
-abbrev pub Terns : ℕ → List ℕ → Type 0
-Terns m xs = (c : ℕ) → c < 2 ^ m → entry xs c ≡ single m c
+abbrev pub Singles : ℕ → List ℕ → Type 0
+Singles m xs = (c : ℕ) → c < 2 ^ m → entry xs c ≡ single m c
 
 -- where no list has fewer than `left` boxes: the first `left` of the area are the first shortest list, or every list has more
 abbrev pub Reached : ℕ → (ℕ → Bool) → (ℕ → Bool) → ℕ → Bool → List ℕ → Type 0
@@ -31,11 +31,11 @@ abbrev pub Spare : ℕ → List ℕ → (ℕ → Bool) → (ℕ → Bool) → �
 Spare m costs need room left spare = (l : List ℕ) → Fits m need room l → length l ≤ left → sumOver l (entry costs) ≤ spare
 
 -- what is known where `left` boxes are to be laid, by the tables of sets, single boxes and costs
-pub record Node (m : ℕ) (sets terns costs : List ℕ) (need room left spare : ℕ) : Type 0 where
+pub record Node (m : ℕ) (sets singles costs : List ℕ) (need room left spare : ℕ) : Type 0 where
   pub marks : m ≤ 5
   pub small : need < 2 ^ (2 ^ m)
   pub of-boxes : Sets m sets
-  pub of-singles : Terns m terns
+  pub of-singles : Singles m singles
   pub least : AtLeast m (has need) (has room) left
   pub most : Spare m costs (has need) (has room) left spare
 

@@ -6,12 +6,12 @@ ghost use Rattle.boxes.specs.Boxes.{through};
 ghost use Rattle.lists.specs.Lists.{lowestOf};
 ghost use Rattle.lists.proofs.Lay.{AtLeast};
 ghost use Rattle.seek.specs.Answer.{has, Sought};
-ghost use Rattle.seek.specs.Steps.{Sets, Terns, Reached, Node, Certified, weight, entry};
+ghost use Rattle.seek.specs.Steps.{Sets, Singles, Reached, Node, Certified, weight, entry};
 
 mod tables;
 
 use tables::SETS;
-use tables::TERNS;
+use tables::SINGLES;
 
 // What is sought: the number of boxes, which stand at the front of the area; or nothing, where no list fits.
 pub enum Found {
@@ -20,18 +20,18 @@ pub enum Found {
 }
 
 // The box through the combination c with the free marks t.
-fn box_on(m: usize, terns: &[usize; 32], c: usize, t: usize) -> usize
-    requires { ⌜ (m ≤ 5) × (c < 2 ^ m) × (t < 2 ^ m) × Terns m (now terns) ⌝ }
+fn box_on(m: usize, singles: &[usize; 32], c: usize, t: usize) -> usize
+    requires { ⌜ (m ≤ 5) × (c < 2 ^ m) × (t < 2 ^ m) × Singles m (now singles) ⌝ }
     ensures { λ r. ⌜ (r ≡ through m c t) × (r < 3 ^ m) × (r < 243) ⌝ }
 {
-    terns[c | t] + terns[t]
+    singles[c | t] + singles[t]
 }
 
 // Lays `left` boxes on all of `need`, inside `room`: on the lowest combination that is not covered, and so on.
 fn cover(
     m: usize,
     sets: &[u32; 243],
-    terns: &[usize; 32],
+    singles: &[usize; 32],
     costs: &[u64; 243],
     need: u32,
     room: u32,
@@ -39,7 +39,7 @@ fn cover(
     spare: u64,
     area: &mut [u8],
 ) -> bool
-    requires { ⌜ Node m (now sets) (now terns) (now costs) need room left spare × (left ≤ length (now area)) ⌝ }
+    requires { ⌜ Node m (now sets) (now singles) (now costs) need room left spare × (left ≤ length (now area)) ⌝ }
     ensures { λ r. ⌜ Reached m (has need) (has room) left r (now (area .exit)) ⌝ }
 {
     if need == 0 {
@@ -49,14 +49,25 @@ fn cover(
         return false;
     }
     let c = u32::trailing_zeros(need) as usize;
-    try_boxes(m, sets, terns, costs, c, need, room, left - 1, spare, area)
+    try_boxes(
+        m,
+        sets,
+        singles,
+        costs,
+        c,
+        need,
+        room,
+        left - 1,
+        spare,
+        area,
+    )
 }
 
 // Lays a box on the combination c, and then `left` more: the boxes through c are tried in rising number.
 fn try_boxes(
     m: usize,
     sets: &[u32; 243],
-    terns: &[usize; 32],
+    singles: &[usize; 32],
     costs: &[u64; 243],
     c: usize,
     need: u32,
@@ -65,13 +76,13 @@ fn try_boxes(
     spare: u64,
     area: &mut [u8],
 ) -> bool
-    requires { ⌜ Node m (now sets) (now terns) (now costs) need room (left + 1) spare × (left < length (now area)) × (lowestOf m (has need) ≡ c) × (c < 2 ^ m) ⌝ }
+    requires { ⌜ Node m (now sets) (now singles) (now costs) need room (left + 1) spare × (left < length (now area)) × (lowestOf m (has need) ≡ c) × (c < 2 ^ m) ⌝ }
     ensures { λ r. ⌜ Reached m (has need) (has room) (left + 1) r (now (area .exit)) ⌝ }
 {
     let n = boxes::power2(m);
     let mut t: usize = 0;
     while t < n {
-        let b = box_on(m, terns, c, t);
+        let b = box_on(m, singles, c, t);
         let s = sets[b];
         if s & room == s {
             let k = costs[b];
@@ -80,7 +91,17 @@ fn try_boxes(
                 let due = need & !s;
                 let free = room & !s;
                 let rest = spare - k;
-                if cover(m, sets, terns, costs, due, free, left, rest, &mut area[1..]) {
+                if cover(
+                    m,
+                    sets,
+                    singles,
+                    costs,
+                    due,
+                    free,
+                    left,
+                    rest,
+                    &mut area[1..],
+                ) {
                     return true;
                 }
             }
@@ -170,11 +191,11 @@ fn certify(
 }
 
 // By weights that are proposed, and checked here.
-fn weighed(m: usize, sets: &[u32; 243], terns: &[usize; 32], need: u32, room: u32) -> Certificate
+fn weighed(m: usize, sets: &[u32; 243], singles: &[usize; 32], need: u32, room: u32) -> Certificate
     requires { ⌜ (m ≤ 5) × Sets m (now sets) ⌝ }
     ensures { λ r. ⌜ Certified m (r .costs) (has need) (has room) (r .plus) (r .minus) × (r .minus < 2 ^ 37) ⌝ }
 {
-    let w = weights::propose(sets, terns, need, room);
+    let w = weights::propose(sets, singles, need, room);
     let plus = w.plus;
     let minus = w.minus;
     certify(m, sets, need, room, &plus, &minus)
@@ -184,7 +205,7 @@ fn weighed(m: usize, sets: &[u32; 243], terns: &[usize; 32], need: u32, room: u3
 fn of_size(
     m: usize,
     sets: &[u32; 243],
-    terns: &[usize; 32],
+    singles: &[usize; 32],
     costs: &[u64; 243],
     need: u32,
     room: u32,
@@ -193,14 +214,14 @@ fn of_size(
     minus: u64,
     area: &mut [u8],
 ) -> bool
-    requires { ⌜ (m ≤ 5) × (need < 2 ^ (2 ^ m)) × (k ≤ length (now area)) × Sets m (now sets) × Terns m (now terns) × AtLeast m (has need) (has room) k × Certified m (now costs) (has need) (has room) plus minus × (minus < 2 ^ 37) × (k ≤ 32) ⌝ }
+    requires { ⌜ (m ≤ 5) × (need < 2 ^ (2 ^ m)) × (k ≤ length (now area)) × Sets m (now sets) × Singles m (now singles) × AtLeast m (has need) (has room) k × Certified m (now costs) (has need) (has room) plus minus × (minus < 2 ^ 37) × (k ≤ 32) ⌝ }
     ensures { λ r. ⌜ Reached m (has need) (has room) k r (now (area .exit)) ⌝ }
 {
     let all = k as u64 * WHOLE + minus;
     if all < plus {
         return false;
     }
-    cover(m, sets, terns, costs, need, room, k, all - plus, area)
+    cover(m, sets, singles, costs, need, room, k, all - plus, area)
 }
 
 // The first shortest list that covers `need` inside `room`, at the front of the area.
@@ -209,15 +230,15 @@ pub fn shortest(m: usize, need: u32, room: u32, area: &mut [u8]) -> Found
     ensures { λ r. ⌜ Sought m (has need) (has room) r (now (area .exit)) ⌝ }
 {
     let sets = SETS;
-    let terns = TERNS;
-    let known = weighed(m, &sets, &terns, need, room);
+    let singles = SINGLES;
+    let known = weighed(m, &sets, &singles, need, room);
     let costs = known.costs;
     let plus = known.plus;
     let minus = known.minus;
     let n = boxes::power2(m);
     let mut k: usize = 0;
     while k <= n {
-        if of_size(m, &sets, &terns, &costs, need, room, k, plus, minus, area) {
+        if of_size(m, &sets, &singles, &costs, need, room, k, plus, minus, area) {
             return Found::Boxes(k);
         }
         k += 1;

@@ -248,7 +248,7 @@ pub const SETS: [u32; 243] = [
 ];
 
 // The marks of each combination as the digits of a box: the box of that single combination.
-pub const TERNS: [usize; 32] = [
+pub const SINGLES: [usize; 32] = [
     0,
     1,
     3,

@@ -8,7 +8,7 @@ use borrow.Author.Needs.{needs}
 use Rattle.lists.proofs.Lay.{AtLeast}
 use Rattle.seek.specs.Answer.{has}
 use Rattle.seek.proofs.Bits.{has-small}
-use Rattle.seek.proofs.Computed.{sets-hold, terns-hold}
+use Rattle.seek.proofs.Computed.{sets-hold, singles-hold}
 use Rattle.seek.proofs.Turn.{reached-yes, reached-no}
 use Rattle.seek.proofs.Settled.{none-fits}
 use Rattle.seek.proofs.shortest.Statement.{statement}
@@ -18,11 +18,11 @@ two-le : (m : ℕ) → m ≤ 5 → 2 ^ m ≤ 32
 two-le m h = pow-mono h
 
 abbrev Inv-loop : tie.InvT-loop
-Inv-loop m need room area₀ sets terns costs plus minus n k₀ area k =
+Inv-loop m need room area₀ sets singles costs plus minus n k₀ area k =
     (length area ≡ length area₀) × (k ≤ n + 1) × (n ≡ 2 ^ m) × (n ≤ 32) × AtLeast m (has need) (has room) k
 
 abbrev μ-loop : tie.MeasureT-loop
-μ-loop m need room area₀ sets terns costs plus minus n k₀ area k = n + 1 - k
+μ-loop m need room area₀ sets singles costs plus minus n k₀ area k = n + 1 - k
 
 weighed-requires : tie.Need-weighed-requires Inv-loop μ-loop
 weighed-requires c κs = let s = c .before .before .before in (s .pre .0, sets-hold (s .args .m) (s .pre .0))
@@ -45,7 +45,7 @@ of-size-requires c κs =
       s .pre .1,
       omega (arith, s .pre .2, l .inv .0, l .inv .2, lt),
       sets-hold (s .args .m) (s .pre .0),
-      terns-hold (s .args .m) (s .pre .0),
+      singles-hold (s .args .m) (s .pre .0),
       l .inv .4,
       w .0,
       w .1,
