@@ -1,1 +1,4 @@
 pub mod Lists
+pub mod Known
+pub mod Pottosin
+pub mod Compared

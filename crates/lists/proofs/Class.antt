@@ -1,0 +1,50 @@
+-- Where all that has room is needed, a class put for both: a box inside the class has its own lowest combination as the lowest needed one,
+-- so that `Rising` is 'in rising order of each box's lowest combination'. (The boxes of a fitting list are inside the class: `fits-independent`.)
+use mathlib.Core.Path.{_≡_}
+use mathlib.Core.Bool.{Bool, _&&_, and-false}
+use mathlib.Core.List.{List, [], _∷_}
+use Prim.Native.Nat.{ℕ, _<_}
+use native.Mathlib.Omega.{arith}
+use Rattle.boxes.specs.Boxes.{contains, lowest}
+use Rattle.boxes.proofs.Cases.{if}
+use Rattle.boxes.proofs.Boxes.{contains-combination}
+use Rattle.boxes.proofs.Choices.{lowest-contained, lowest-least}
+use Rattle.lists.specs.Lists.{lowestNeeded, Ahead, Rising}
+use Rattle.lists.specs.Pottosin.{Interval, Independent}
+use Rattle.lists.proofs.Fit.{lowest-is}
+
+module _ (m : ℕ) (class : ℕ → Bool) where
+  pub lowest-needed : (b : ℕ) → Interval m class b → lowestNeeded m class b ≡ lowest m b
+  lowest-needed b i =
+      let here = lowest-contained m b (i .0) in
+      lowest-is m (λ c. class c && contains m b c) (lowest m b) (rw (i .1 (lowest m b) here, here)) (contains-combination m b (lowest m b) here)
+      (λ d l. if (contains m b d) (λ t. absurd (omega (arith, lowest-least m b d t))) (λ t. rw (t, and-false (class d))))
+
+  -- in rising order of each box's lowest combination, in these words
+  unfoldable pub LowAhead : ℕ → List ℕ → Type 0
+  LowAhead b [] = Unit {0}
+  LowAhead b (a ∷ l) = (lowest m b < lowest m a) × LowAhead b l
+
+  unfoldable pub LowRising : List ℕ → Type 0
+  LowRising [] = Unit {0}
+  LowRising (b ∷ l) = LowAhead b l × LowRising l
+
+  ahead-low : (b : ℕ) (l : List ℕ) → Interval m class b → Independent m class l → Ahead m class b l → LowAhead b l
+  unfolding Ahead LowAhead Independent
+  ahead-low b [] i g h = tt
+  ahead-low b (a ∷ l) i g h = (omega (arith, lowest-needed b i, lowest-needed a (g .0)), ahead-low b l i (g .2) (h .1))
+
+  low-ahead : (b : ℕ) (l : List ℕ) → Interval m class b → Independent m class l → LowAhead b l → Ahead m class b l
+  unfolding Ahead LowAhead Independent
+  low-ahead b [] i g h = tt
+  low-ahead b (a ∷ l) i g h = (omega (arith, lowest-needed b i, lowest-needed a (g .0)), low-ahead b l i (g .2) (h .1))
+
+  pub rising-low : (l : List ℕ) → Independent m class l → Rising m class l → LowRising l
+  unfolding Rising LowRising Independent
+  rising-low [] g h = tt
+  rising-low (b ∷ l) g h = (ahead-low b l (g .0) (g .2) (h .0), rising-low l (g .2) (h .1))
+
+  pub low-rising : (l : List ℕ) → Independent m class l → LowRising l → Rising m class l
+  unfolding Rising LowRising Independent
+  low-rising [] g h = tt
+  low-rising (b ∷ l) g h = (low-ahead b l (g .0) (g .2) (h .0), low-rising l (g .2) (h .1))

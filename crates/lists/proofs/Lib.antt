@@ -1,0 +1,11 @@
+pub mod Count
+pub mod Fit
+pub mod Order
+pub mod First
+pub mod Lay
+pub mod Exist
+pub mod Model
+pub mod Known
+pub mod Pottosin
+pub mod Class
+pub mod Compare

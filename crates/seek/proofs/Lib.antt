@@ -1,0 +1,5 @@
+pub mod Bits
+pub mod Computed
+pub mod Cost
+pub mod Turn
+pub mod Settled

@@ -1,0 +1,112 @@
+-- The sizes below k have been tried: no list has fewer than k boxes. By 2 ^ m one is found wherever a list fits.
+use mathlib.Core.Path.{_≡_, refl, _∙_}
+use Prim.Native.Nat.{ℕ, _≤_, _-_, _+_, _^_, zero-le}
+use native.Mathlib.Omega.{arith}
+use lib.ListN.{length}
+use lib.Pow.{pow-mono}
+use borrow.Author.Needs.{needs}
+use Rattle.lists.proofs.Lay.{AtLeast}
+use Rattle.seek.specs.Answer.{has}
+use Rattle.seek.proofs.Bits.{has-small}
+use Rattle.seek.proofs.Computed.{sets-hold, singles-hold}
+use Rattle.seek.proofs.Turn.{reached-yes, reached-no}
+use Rattle.seek.proofs.Settled.{none-fits}
+use Rattle.seek.proofs.shortest.Statement.{statement}
+use Rattle.seek.proofs.shortest.Tie as tie
+
+two-le : (m : ℕ) → m ≤ 5 → 2 ^ m ≤ 32
+two-le m h = pow-mono h
+
+abbrev Inv-loop : tie.InvT-loop
+Inv-loop m need room area₀ sets singles costs plus minus n k₀ area k =
+    (length area ≡ length area₀) × (k ≤ n + 1) × (n ≡ 2 ^ m) × (n ≤ 32) × AtLeast m (has need) (has room) k
+
+abbrev μ-loop : tie.MeasureT-loop
+μ-loop m need room area₀ sets singles costs plus minus n k₀ area k = n + 1 - k
+
+weighed-requires : tie.Need-weighed-requires Inv-loop μ-loop
+weighed-requires c κs = let s = c .before .before .before in (s .pre .0, sets-hold (s .args .m) (s .pre .0))
+
+power2-requires : tie.Need-power2-requires Inv-loop μ-loop
+power2-requires c κs = let s = c .before .before .before .before .before in omega (arith, s .pre .0)
+
+loop-holds : tie.Need-loop-holds Inv-loop μ-loop
+loop-holds c =
+    let s = c .before .before .before .before .before .before in
+    (refl, omega arith, c .power2 .ensures .0, omega (arith, c .power2 .ensures .0, two-le (s .args .m) (s .pre .0)), λ l f. zero-le)
+
+of-size-requires : tie.Need-of-size-requires Inv-loop μ-loop
+of-size-requires c κs =
+    let s = c .before .before .before .before .before .before .before .before .before .before .before .before in
+    let l = c .before .before .before .before .before .loop in
+    let lt = c .before .before .before .before .loop-test .taken in
+    let w = c .before .before .before .before .before .before .before .before .weighed .ensures in (
+      s .pre .0,
+      s .pre .1,
+      omega (arith, s .pre .2, l .inv .0, l .inv .2, lt),
+      sets-hold (s .args .m) (s .pre .0),
+      singles-hold (s .args .m) (s .pre .0),
+      l .inv .4,
+      w .0,
+      w .1,
+      omega (arith, l .inv .3, lt),
+    )
+
+same-length : tie.Need-same-length Inv-loop μ-loop
+same-length c = c .before .before .before .of-size .kept .1 .1 .1 .1 .1 .1 .1 .1 .1 .0 ∙ c .before .before .before .before .before .before .before .before .before .loop .inv .0
+
+returns : tie.Need-returns Inv-loop μ-loop
+returns c =
+    let s = c .before .before .before .before .before .before .before .before .before .before .before .before .before .before .before .before in
+    let l = c .before .before .before .before .before .before .before .before .before .loop in
+    let lt = c .before .before .before .before .before .before .before .before .loop-test .taken in
+    let q = c .before .before .before .of-size in (
+      omega (arith, q .kept .1 .1 .1 .1 .1 .1 .1 .1 .1 .0, s .pre .2, l .inv .0, l .inv .2, lt),
+      reached-yes _ _ _ _ _ (q .result) (c .if1 .taken) (q .ensures),
+    )
+
+add-k : tie.Need-add-k Inv-loop μ-loop
+add-k c = omega arith
+
+loop-less : tie.Need-loop-less Inv-loop μ-loop
+loop-less c = omega arith
+
+loop-again : tie.Need-loop-again Inv-loop μ-loop
+loop-again c =
+    let l = c .before .before .before .before .before .before .before .before .before .loop in
+    let lt = c .before .before .before .before .before .before .before .before .loop-test .taken in
+    let q = c .before .before .before .of-size in (
+      q .kept .1 .1 .1 .1 .1 .1 .1 .1 .1 .0 ∙ l .inv .0,
+      omega (arith, lt),
+      l .inv .2,
+      l .inv .3,
+      reached-no _ _ _ _ _ (q .result) (c .if1 .left) (q .ensures),
+    )
+
+same-length-2 : tie.Need-same-length-2 Inv-loop μ-loop
+same-length-2 c = search needs
+
+returns-2 : tie.Need-returns-2 Inv-loop μ-loop
+returns-2 c =
+    let s = c .before .before .before .before .before .before .before .before in
+    let l = c .before .loop in
+    none-fits (s .args .m) (has (s .args .need)) (has (s .args .room)) (l .k) (has-small (s .args .m) (s .args .need) (s .pre .1)) (l .inv .4)
+    (omega (arith, c .loop-test .left, l .inv .2))
+
+pub shortest-spec : {M : Type 1} → statement M
+shortest-spec =
+    tie.close
+    (tie.spec
+    Inv-loop
+    μ-loop
+    weighed-requires
+    power2-requires
+    loop-holds
+    of-size-requires
+    same-length
+    returns
+    add-k
+    loop-less
+    loop-again
+    same-length-2
+    returns-2)

@@ -1,0 +1,19 @@
+-- What the search answers, for sets of combinations told as numbers.
+use mathlib.Core.Bool.{Bool}
+use mathlib.Core.List.{List}
+use Prim.Native.Nat.{ℕ, zero, suc, _/_, _%_, _≤_}
+use lib.Dec.{eqb}
+use lib.ListN.{length, take}
+use Rattle.lists.specs.Lists.{Fits, FirstShortest}
+use Rattle.seek.specs.declared.Found.{Found}
+use Rattle.seek.specs.declared.Found.the-variants.{Boxes, Nothing}
+
+-- the combination c is in the set u: bit c is on
+unfoldable pub has : ℕ → ℕ → Bool
+has u zero = eqb (u % 2) 1
+has u (suc c) = has (u / 2) c
+
+-- a number of boxes, and so many at the front of the area are the first shortest list; or nothing, and no list fits
+abbrev pub Sought : ℕ → (ℕ → Bool) → (ℕ → Bool) → Found → List ℕ → Type 0
+Sought m need room (Boxes n) area = (n ≤ length area) × FirstShortest m need room (take n area)
+Sought m need room Nothing area = (l : List ℕ) → Fits m need room l → ⊥
