@@ -1,0 +1,94 @@
+-- The class as bits, combination by combination: what stands after those below c. And what a combination adds to the total.
+use Prim.Native.Nat.{ℕ, zero, suc, _+_, _*_, _/_, _%_, _^_, _<_, _≤_}
+use mathlib.Core.Path.{_≡_, refl, sym, _∙_, ap, fun-ext}
+use mathlib.Core.Bool.{Bool, true, false, _&&_}
+use native.Mathlib.Nat.{pow-suc}
+use native.Mathlib.Omega.{arith}
+use lib.Dec.{eqb, ltb}
+use borrow.Author.Tests.{eq-eqb, lt-ltb, le-ltb}
+use Rattle.boxes.proofs.Cases.{below-or, same-or, and-no}
+use Rattle.boxes.proofs.Numbers.{power-next}
+use mathlib.Core.List.{List}
+use Rattle.tables.specs.Tables.{own}
+use Rattle.boxes.specs.Sums.{only}
+use Rattle.sheet.specs.Sound.{classOf}
+use Rattle.listing.specs.Listing.{taken}
+use Rattle.seek.specs.Answer.{has}
+use Rattle.seek.proofs.Bits.{has-zero, has-high}
+
+-- bit c put on top of a set below it
+
+has-top : (c u : ℕ) → u < 2 ^ c → has (1 * 2 ^ c + u) c ≡ true
+unfolding has
+has-top zero u l = eq-eqb ((1 * 2 ^ 0 + u) % 2) 1 (omega arith)
+has-top (suc c) u l =
+    let p = pow-suc 2 c in
+    let h : (1 * 2 ^ suc c + u) / 2 ≡ 1 * 2 ^ c + u / 2 = omega arith in
+    rw h (has-top c (u / 2) (omega arith))
+
+has-under : (c u k : ℕ) → u < 2 ^ c → k < c → has (1 * 2 ^ c + u) k ≡ has u k
+unfolding has
+has-under zero u k l h = absurd (omega arith)
+has-under (suc c) u zero l h =
+    let p = pow-suc 2 c in
+    let e : (1 * 2 ^ suc c + u) % 2 ≡ u % 2 = omega arith in
+    ap (λ (x : ℕ). eqb x 1) e
+has-under (suc c) u (suc k) l h =
+    let p = pow-suc 2 c in
+    let e : (1 * 2 ^ suc c + u) / 2 ≡ 1 * 2 ^ c + u / 2 = omega arith in
+    rw e (has-under c (u / 2) k (omega arith) (omega arith))
+
+-- the combinations whose own count is 0
+abbrev pub inside : ℕ → List ℕ → ℕ → Bool
+inside m t c = eqb (own m t c) 0
+
+-- u has the combinations of the class that are below c
+pub record Filled (class : ℕ → Bool) (c u : ℕ) : Type 0 where
+  pub small : u < 2 ^ c
+  pub bits : (k : ℕ) → has u k ≡ (ltb k c && class k)
+
+pub filled-none : (class : ℕ → Bool) → Filled class 0 0
+filled-none class = record {
+  small = omega arith;
+  bits = λ k. has-zero k ∙ sym (ap (λ (t : Bool). t && class k) (le-ltb k 0 (omega arith)));
+}
+
+module _ {class : ℕ → Bool} {c u : ℕ} (f : Filled class c u) where
+  above : (v : ℕ) → v < 2 ^ (c + 1) → (k : ℕ) → c + 1 ≤ k → has v k ≡ (ltb k (c + 1) && class k)
+  above v l k h = has-high (c + 1) k v l h ∙ sym (ap (λ (t : Bool). t && class k) (le-ltb k (c + 1) h))
+
+  below : (k : ℕ) → k < c → has u k ≡ (ltb k (c + 1) && class k)
+  below k l = f .bits k ∙ ap (λ (t : Bool). t && class k) (lt-ltb k c l ∙ sym (lt-ltb k (c + 1) (omega arith)))
+
+  pub filled-in : class c ≡ true → Filled class (c + 1) (1 * 2 ^ c + u)
+  filled-in e =
+      let p = power-next 2 c in
+      let small : 1 * 2 ^ c + u < 2 ^ (c + 1) = omega (arith, f .small) in
+      record {
+        small = small;
+        bits = λ k. below-or k c
+            (λ l. has-under c u k (f .small) l ∙ below k l)
+            (λ l. same-or k c
+            (λ q. ap (has (1 * 2 ^ c + u)) q ∙ has-top c u (f .small) ∙ sym (ap (λ (x : ℕ). ltb x (c + 1) && class x) q ∙ rw (lt-ltb c (c + 1) (omega arith)) e))
+            (λ n. above (1 * 2 ^ c + u) small k (omega arith)));
+      }
+
+  pub filled-out : class c ≡ false → Filled class (c + 1) u
+  filled-out e =
+      let p = power-next 2 c in
+      let small : u < 2 ^ (c + 1) = omega (arith, f .small) in
+      record {
+        small = small;
+        bits = λ k. below-or k c
+            (λ l. below k l)
+            (λ l. same-or k c
+            (λ q. ap (has u) q ∙ has-high c c u (f .small) (omega arith) ∙ sym (ap (λ (x : ℕ). ltb x (c + 1) && class x) q ∙ rw (lt-ltb c (c + 1) (omega arith)) e))
+            (λ n. above u small k (omega arith)));
+      }
+
+pub filled-all : {class : ℕ → Bool} {c u : ℕ} → Filled class c u → has u ≡ (λ k. ltb k c && class k)
+filled-all f = fun-ext (f .bits)
+
+-- a combination whose own count is x adds its seconds exactly if x is 0
+pub taken-is : (m : ℕ) (outside held : List ℕ) (c : ℕ) → c < 2 ^ m → taken (classOf m outside) (own m held) c ≡ only (eqb (own m outside c) 0) (own m held c)
+taken-is m outside held c l = ap (λ (t : Bool). only (t && eqb (own m outside c) 0) (own m held c)) (lt-ltb c (2 ^ m) l)

@@ -1,0 +1,47 @@
+-- The finished list, at the front of the search's own area, goes to the front of the lent one.
+use Prim.Native.Nat.{ℕ, _+_, _≤_}
+use mathlib.Core.Path.{_≡_, refl, sym, _∙_, ap, ap₂, subst}
+use mathlib.Core.Bool.{Bool}
+use mathlib.Core.List.{List, [], _++_}
+use native.Mathlib.Omega.{arith}
+use lib.ListN.{length, take, drop, length-take, length-append}
+use lib.Seq.{take-append-le}
+use Rattle.print.specs.Areas.{laid, Wrote}
+use Rattle.lists.specs.Lists.{Fits, FirstShortest}
+use Rattle.seek.specs.Answer.{has, Sought}
+use Rattle.seek.specs.declared.Found.{Found}
+use Rattle.seek.specs.declared.Found.the-variants.{Boxes, Nothing}
+use Rattle.sheet.specs.declared.Value.{Value}
+use Rattle.listing.specs.Listing.{Searched, none, given}
+
+-- a text laid at the front
+laid-front : (out text : List ℕ) → laid out 0 text ≡ text ++ drop (length text) out
+unfolding laid
+laid-front out text = let e : 0 + length text ≡ length text = omega arith in ap (λ (n : ℕ). text ++ drop n out) e
+
+-- its place in the search's own area, ys of it lent and zs not
+
+pub front-fits : (k : ℕ) (ys zs : List ℕ) → k ≤ length ys → k ≤ length (ys ++ zs)
+front-fits k ys zs l = omega (arith, length-append ys zs)
+
+pub front-size : (k : ℕ) (ys zs : List ℕ) → k ≤ length ys → k ≡ length (take k (ys ++ zs))
+front-size k ys zs l = simp length-take (omega (arith, front-fits k ys zs l))
+
+-- what the search said, where its answer is known
+pub said : (m : ℕ) (p : ℕ → Bool) (ys : List ℕ) (r q : Found) → Sought m p p r ys → r ≡ q → Sought m p p q ys
+said m p ys r q s e = subst (λ (x : Found). Sought m p p x ys) e s
+
+module _ (m : ℕ) (class : ℕ → Bool) (bits : ℕ) (told : has bits ≡ class) (area : List ℕ) where
+  pub searched-given : (k : ℕ) (ys zs later : List ℕ) (r : ℕ) → Sought m (has bits) (has bits) (Boxes k) ys → Wrote area 0 (take k (ys ++ zs)) r later
+      → Searched m class area (record { number = 0; value = k }) later
+  searched-given k ys zs later r s w =
+      let l = take k ys in
+      let text : take k (ys ++ zs) ≡ l = take-append-le k ys zs (s .0) in
+      let size : length l ≡ k = length-take k ys ∙ omega (arith, s .0) in
+      let stands : later ≡ l ++ drop (length l) area = w .area ∙ ap (laid area 0) text ∙ laid-front area l in
+      subst (λ (n : ℕ). Searched m class area (record { number = 0; value = n }) later) size
+      (subst (Searched m class area (record { number = 0; value = length l })) (sym stands)
+      (given (subst (λ (p : ℕ → Bool). FirstShortest m p p l) told (s .1))))
+
+  pub searched-none : (ys : List ℕ) → Sought m (has bits) (has bits) Nothing ys → Searched m class area (record { number = 6; value = 0 }) area
+  searched-none ys s = none (subst (λ (p : ℕ → Bool). (l : List ℕ) → Fits m p p l → ⊥) told s)

@@ -1,0 +1,37 @@
+-- The list and the total of a sheet's class: the refusals by exact conditions, in 01's order, and otherwise what the values are.
+use Prim.Native.Nat.{ℕ, _^_, _<_, _≤_}
+use mathlib.Core.Bool.{Bool}
+use mathlib.Core.List.{List, _++_}
+use lib.ListN.{length, drop}
+use Rattle.boxes.specs.Sums.{sum, only}
+use Rattle.lists.specs.Lists.{Fits, FirstShortest}
+use Rattle.sheet.specs.Record.{Record}
+use Rattle.sheet.specs.Sound.{ClassReady, Ready, recordOf}
+use Rattle.sheet.specs.declared.Sheet.{Sheet}
+use Rattle.sheet.specs.declared.Value.{Value}
+
+-- what a combination adds to the class total: its seconds, if it is in the class
+abbrev pub taken : (ℕ → Bool) → (ℕ → ℕ) → ℕ → ℕ
+taken class times c = only (class c) (times c)
+
+-- the seconds held in the class
+abbrev pub totalOf : Record → ℕ
+totalOf r = sum (2 ^ r .marks) (taken (r .class) (r .times))
+
+-- the search's answer for a class of m marks: 6 if no list fits; or else the first shortest list at the front of the area, one byte for each box,
+-- and the bytes behind it as they were
+pub data Searched (m : ℕ) (class : ℕ → Bool) (area : List ℕ) : Value → List ℕ → Type 0 where
+  none : ((l : List ℕ) → Fits m class class l → ⊥) → Searched m class area (record { number = 6; value = 0 }) area
+  given : {l : List ℕ} → FirstShortest m class class l → Searched m class area (record { number = 0; value = length l }) (l ++ drop (length l) area)
+
+-- what `list` answers and leaves in the lent area: 7, 5, and then what the search finds for the class that the counts tell
+pub data Listed (most : ℕ) (s : Sheet) (area : List ℕ) : Value → List ℕ → Type 0 where
+  spoiled : (ClassReady most (s .marks) (s .outside) → ⊥) → Listed most s area (record { number = 7; value = 0 }) area
+  short : ClassReady most (s .marks) (s .outside) → length area < 2 ^ s .marks → Listed most s area (record { number = 5; value = 0 }) area
+  searched : {r : Value} {later : List ℕ} → ClassReady most (s .marks) (s .outside) → 2 ^ s .marks ≤ length area
+      → Searched (s .marks) (recordOf s .class) area r later → Listed most s area r later
+
+-- what `total` answers: 7, or else the seconds held in the class
+pub data Totalled (most : ℕ) (s : Sheet) : Value → Type 0 where
+  spoiled : (Ready most (s .marks) (s .outside) (s .held) → ⊥) → Totalled most s (record { number = 7; value = 0 })
+  told : Ready most (s .marks) (s .outside) (s .held) → Totalled most s (record { number = 0; value = totalOf (recordOf s) })
