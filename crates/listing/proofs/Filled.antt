@@ -1,12 +1,12 @@
 -- The class as bits, combination by combination: what stands after those below c. And what a combination adds to the total.
 use Prim.Native.Nat.{ℕ, zero, suc, _+_, _*_, _/_, _%_, _^_, _<_, _≤_}
-use mathlib.Core.Path.{_≡_, refl, sym, _∙_, ap, fun-ext}
+use mathlib.Core.Path.{_≡_, sym, _∙_, ap, fun-ext}
 use mathlib.Core.Bool.{Bool, true, false, _&&_}
 use native.Mathlib.Nat.{pow-suc}
 use native.Mathlib.Omega.{arith}
 use lib.Dec.{eqb, ltb}
 use borrow.Author.Tests.{eq-eqb, lt-ltb, le-ltb}
-use Rattle.boxes.proofs.Cases.{below-or, same-or, and-no}
+use Rattle.boxes.proofs.Cases.{below-or, same-or}
 use Rattle.boxes.proofs.Numbers.{power-next}
 use mathlib.Core.List.{List}
 use Rattle.tables.specs.Tables.{own}

@@ -1,8 +1,8 @@
 -- The finished list, at the front of the search's own area, goes to the front of the lent one.
 use Prim.Native.Nat.{ℕ, _+_, _≤_}
-use mathlib.Core.Path.{_≡_, refl, sym, _∙_, ap, ap₂, subst}
+use mathlib.Core.Path.{_≡_, sym, _∙_, ap, subst}
 use mathlib.Core.Bool.{Bool}
-use mathlib.Core.List.{List, [], _++_}
+use mathlib.Core.List.{List, _++_}
 use native.Mathlib.Omega.{arith}
 use lib.ListN.{length, take, drop, length-take, length-append}
 use lib.Seq.{take-append-le}
@@ -11,7 +11,6 @@ use Rattle.lists.specs.Lists.{Fits, FirstShortest}
 use Rattle.seek.specs.Answer.{has, Sought}
 use Rattle.seek.specs.declared.Found.{Found}
 use Rattle.seek.specs.declared.Found.the-variants.{Boxes, Nothing}
-use Rattle.sheet.specs.declared.Value.{Value}
 use Rattle.listing.specs.Listing.{Searched, none, given}
 
 -- a text laid at the front

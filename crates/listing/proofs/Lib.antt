@@ -1,3 +1,4 @@
 pub mod Filled
 pub mod Given
 pub mod Settled
+pub mod Lines

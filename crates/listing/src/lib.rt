@@ -1,6 +1,6 @@
 // The list and the total of a sheet's class.
 ghost use mathlib.Core.Path.{_≡_};
-ghost use Prim.Native.Nat.{ℕ, _^_, _<_, _≤_};
+ghost use Prim.Native.Nat.{_^_, _<_, _≤_};
 ghost use lib.ListN.{length};
 ghost use Rattle.sheet.specs.Limits.{mostMarks, entries};
 ghost use Rattle.sheet.specs.Sound.{classOf};
@@ -93,11 +93,11 @@ fn seconds_of(m: usize, c: usize, outside: &[u32], held: &[u32]) -> u64
     requires { ⌜ (m ≤ 5) × (c < 2 ^ m) × (entries ≤ length (now outside)) × (entries ≤ length (now held)) ⌝ }
     ensures { λ r. ⌜ (r ≡ taken (classOf m (now (outside .entry))) (own m (now (held .entry))) c) × (r < 2 ^ 32) ⌝ }
 {
-    let b = boxes::single(m, c);
-    if outside[b] != 0 {
+    let at = boxes::single(m, c);
+    if outside[at] != 0 {
         return 0;
     }
-    wide(held[b])
+    wide(held[at])
 }
 
 // The seconds held in the class of m marks.

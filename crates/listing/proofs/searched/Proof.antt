@@ -1,14 +1,10 @@
 -- The search's own area is as long as a class has combinations; what it finds goes to the lent area.
-use Prim.Native.Nat.{ℕ, _^_, _≤_}
-use mathlib.Core.Path.{_≡_, _∙_, sym, subst, ap}
 use native.Mathlib.Omega.{arith}
 use native.Mathlib.Nat.{pow-le-pow-right}
-use lib.ListN.{length, drop, length-take}
+use lib.ListN.{drop, length-take}
 use borrow.Author.Needs.{needs}
 use Rattle.listing.proofs.Given.{front-fits, front-size, said, searched-given, searched-none}
-use Rattle.print.proofs.Areas.{wrote-length}
 use Rattle.seek.specs.declared.Found.the-variants.{Boxes}
-use Rattle.seek.specs.declared.Found.{Found}
 use Rattle.seek.specs.Answer.{has, Sought}
 use Rattle.listing.proofs.searched.Statement.{statement}
 use Rattle.listing.proofs.searched.Tie as tie

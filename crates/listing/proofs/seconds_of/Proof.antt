@@ -1,14 +1,11 @@
-use Prim.Native.Nat.{ℕ, _<_}
-use mathlib.Core.Bool.{Bool}
-use mathlib.Core.Path.{_≡_, sym, _∙_, ap}
+use Prim.Native.Nat.{_<_}
+use mathlib.Core.Path.{sym, _∙_, ap}
 use native.Mathlib.Omega.{arith}
 use native.Mathlib.Nat.{pow-le-pow-right}
-use lib.Dec.{eqb}
 use borrow.Author.Tests.{eq-eqb, ne-eqb}
 use borrow.Author.Needs.{needs}
 use Rattle.listing.proofs.Filled.{taken-is}
-use Rattle.tables.specs.Tables.{entry, own}
-use Rattle.boxes.specs.Sums.{only}
+use Rattle.tables.specs.Tables.{entry}
 use Rattle.listing.proofs.seconds_of.Statement.{statement}
 use Rattle.listing.proofs.seconds_of.Tie as tie
 

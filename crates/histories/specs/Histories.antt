@@ -1,0 +1,66 @@
+-- Demand 3. A history is a record of marks, class and times, and the calls made since; what it comes to is worked out from the record and the
+-- calls alone, never from a kept number.
+use Prim.Native.Nat.{ℕ, _+_, _-_, _^_, _<_, _≤_}
+use mathlib.Core.Path.{_≡_}
+use mathlib.Core.Bool.{Bool, true, false, not, cond, _&&_, _||_}
+use mathlib.Core.List.{List, [], _∷_}
+use lib.Dec.{eqb, leb}
+use Rattle.boxes.specs.Sums.{sum, only}
+use Rattle.sheet.specs.Limits.{mostMarks, mostHeld, marksOk, amountOk}
+use Rattle.sheet.specs.Record.{Record}
+use Rattle.sheet.specs.Calls.{changeOf, receiveOf, withdrawOf}
+use Rattle.sheet.specs.declared.Sheet.{Sheet}
+use Rattle.sheet.specs.declared.Answer.{Answer}
+use Rattle.histories.specs.declared.Call.{Call}
+use Rattle.histories.specs.declared.Call.the-variants.{Enter, Leave, Receive, Withdraw}
+
+-- what the program does, by the contracts of its calls
+abbrev pub didOf : Sheet → Call → Answer
+didOf s (Enter c) = changeOf mostMarks true s c
+didOf s (Leave c) = changeOf mostMarks false s c
+didOf s (Receive c d) = receiveOf mostMarks s c d
+didOf s (Withdraw c d) = withdrawOf mostMarks s c d
+
+-- a record that a sheet can have: 1 to 5 marks, no combination that is none in the class, at most 4,000,000,000 seconds
+pub record Good (r : Record) : Type 0 where
+  pub marks : marksOk mostMarks (r .marks) ≡ true
+  pub class : (c : ℕ) → r .class c ≡ true → c < 2 ^ r .marks
+  pub times : sum (2 ^ r .marks) (r .times) ≤ mostHeld
+
+-- the number of a call, from the record alone: 7 never comes
+abbrev pub numberOf : Record → Call → ℕ
+numberOf r (Enter c) = cond (leb (2 ^ r .marks) c) 2 (cond (r .class c) 3 0)
+numberOf r (Leave c) = cond (leb (2 ^ r .marks) c) 2 (cond (not (r .class c)) 3 0)
+numberOf r (Receive c d) =
+    cond (leb (2 ^ r .marks) c) 2 (cond (not (amountOk d)) 4 (cond (not (leb (sum (2 ^ r .marks) (r .times) + d) mostHeld)) 8 0))
+numberOf r (Withdraw c d) = cond (leb (2 ^ r .marks) c) 2 (cond (not (amountOk d)) 4 (cond (not (leb d (r .times c))) 9 0))
+
+-- the record after an accepted call
+abbrev pub accepted : Record → Call → Record
+accepted r (Enter c) = record { marks = r .marks; class = λ x. r .class x || eqb x c; times = r .times }
+accepted r (Leave c) = record { marks = r .marks; class = λ x. r .class x && not (eqb x c); times = r .times }
+accepted r (Receive c d) = record { marks = r .marks; class = r .class; times = λ x. r .times x + only (eqb x c) d }
+accepted r (Withdraw c d) = record { marks = r .marks; class = r .class; times = λ x. r .times x - only (eqb x c) d }
+
+-- and after any call: a refused one leaves it
+abbrev pub after : Record → Call → Record
+after r k = cond (eqb (numberOf r k) 0) (accepted r k) r
+
+-- after a sequence of calls, refused ones among them
+unfoldable pub afterAll : Record → List Call → Record
+afterAll r [] = r
+afterAll r (k ∷ ks) = afterAll (after r k) ks
+
+-- the numbers that they are answered by
+unfoldable pub numbersOf : Record → List Call → List ℕ
+numbersOf r [] = []
+numbersOf r (k ∷ ks) = numberOf r k ∷ numbersOf (after r k) ks
+
+-- what the program does in the same sequence: the sheet at the end, and the numbers
+unfoldable pub sheetAfter : Sheet → List Call → Sheet
+sheetAfter s [] = s
+sheetAfter s (k ∷ ks) = sheetAfter (didOf s k .sheet) ks
+
+unfoldable pub answers : Sheet → List Call → List ℕ
+answers s [] = []
+answers s (k ∷ ks) = didOf s k .number ∷ answers (didOf s k .sheet) ks
