@@ -16,6 +16,7 @@ use Rattle.seek.specs.declared.Found.{Found}
 use Rattle.seek.specs.declared.Found.the-variants.{Boxes, Nothing}
 use Rattle.seek.specs.Answer.{Sought}
 
+-- no list of up to 2 ^ m boxes: no list at all
 pub none-fits : (m : ℕ) (need room : ℕ → Bool) (k : ℕ) → Small m need → AtLeast m need room k → 2 ^ m < k → (l : List ℕ) → Fits m need room l → ⊥
 none-fits m need room k s least h l f =
     let x = exists m need room s (fits-small m f) in
