@@ -81,7 +81,9 @@ static void report(const char *name, const struct sum *z)
 int main(void)
 {
     static const uint32_t hard[] = {0xf66fdbbf, 0xb7eddbb7, 0xd7ebbdd7, 0xbe7ddbb7, 0xf99f9ffe, 0x9ff9f97f, 0xebd77eeb, 0x977f7fff,
-                                    0xffffffff, 0xfffefffe, 0x69969669, 0x7f97ed7f, 0xffffbfff};
+                                    0xffffffff, 0xfffefffe, 0x69969669, 0x7f97ed7f, 0xffffbfff,
+                                    /* the worst that a search for bad classes found */
+                                    0xfddf6dda, 0xffd76bd6};
     struct sum known = {0}, classes = {0}, pairs = {0};
     for (size_t i = 0; i < sizeof hard / sizeof *hard; i++)
         measure(hard[i], hard[i], 40, 1, &known);

@@ -1,6 +1,6 @@
 -- Where all that has room is needed, a class put for both: a box inside the class has its own lowest combination as the lowest needed one,
 -- so that `Rising` is 'in rising order of each box's lowest combination'. (The boxes of a fitting list are inside the class: `fits-independent`.)
-use mathlib.Core.Path.{_≡_}
+use mathlib.Core.Path.{_≡_, refl, ap₂}
 use mathlib.Core.Bool.{Bool, _&&_, and-false}
 use mathlib.Core.List.{List, [], _∷_}
 use Prim.Native.Nat.{ℕ, _<_}
@@ -29,22 +29,13 @@ module _ (m : ℕ) (class : ℕ → Bool) where
   LowRising [] = Unit {0}
   LowRising (b ∷ l) = LowAhead b l × LowRising l
 
-  ahead-low : (b : ℕ) (l : List ℕ) → Interval m class b → Independent m class l → Ahead m class b l → LowAhead b l
+  ahead-same : (b : ℕ) (l : List ℕ) → Interval m class b → Independent m class l → Ahead m class b l ≡ LowAhead b l
   unfolding Ahead LowAhead Independent
-  ahead-low b [] i g h = tt
-  ahead-low b (a ∷ l) i g h = (omega (arith, lowest-needed b i, lowest-needed a (g .0)), ahead-low b l i (g .2) (h .1))
+  ahead-same b [] i g = refl
+  ahead-same b (a ∷ l) i g =
+      rw (lowest-needed b i, lowest-needed a (g .0), ahead-same b l i (g .2))
 
-  low-ahead : (b : ℕ) (l : List ℕ) → Interval m class b → Independent m class l → LowAhead b l → Ahead m class b l
-  unfolding Ahead LowAhead Independent
-  low-ahead b [] i g h = tt
-  low-ahead b (a ∷ l) i g h = (omega (arith, lowest-needed b i, lowest-needed a (g .0)), low-ahead b l i (g .2) (h .1))
-
-  pub rising-low : (l : List ℕ) → Independent m class l → Rising m class l → LowRising l
+  pub rising-same : (l : List ℕ) → Independent m class l → Rising m class l ≡ LowRising l
   unfolding Rising LowRising Independent
-  rising-low [] g h = tt
-  rising-low (b ∷ l) g h = (ahead-low b l (g .0) (g .2) (h .0), rising-low l (g .2) (h .1))
-
-  pub low-rising : (l : List ℕ) → Independent m class l → LowRising l → Rising m class l
-  unfolding Rising LowRising Independent
-  low-rising [] g h = tt
-  low-rising (b ∷ l) g h = (low-ahead b l (g .0) (g .2) (h .0), low-rising l (g .2) (h .1))
+  rising-same [] g = refl
+  rising-same (b ∷ l) g = ap₂ (λ (A B : Type 0). A × B) (ahead-same b l (g .0) (g .2)) (rising-same l (g .2))

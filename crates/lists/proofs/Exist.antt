@@ -12,9 +12,9 @@ use borrow.Author.Tests.{eq-eqb, ne-eqb, eqb-true, lt-ltb, le-ltb}
 use Rattle.boxes.specs.Boxes.{agrees, contains, through, single}
 use Rattle.boxes.proofs.Cases.{if, below-or, same-or, and-left, and-right}
 use Rattle.boxes.proofs.Choices.{through-lt, single-contains}
-use Rattle.lists.specs.Lists.{Fits}
+use Rattle.lists.specs.Lists.{Fits, FirstShortest}
 use Rattle.lists.proofs.Count.{clash}
-use Rattle.lists.proofs.Fit.{less, fits-cons, fits-none, fits-room}
+use Rattle.lists.proofs.Fit.{less, fits-cons, fits-none, fits-room, fits-small}
 use Rattle.lists.proofs.Lay.{Small}
 
 -- the box of c with mark 0 free contains the combinations that agree with c in the other marks
@@ -133,3 +133,12 @@ exists zero need room s h = if (need 0)
 exists (suc m) need room s h =
     let y = half-exists m need s in
     (y .0, fits-room (suc m) room h (y .1), omega (arith, y .2, pow-suc 2 m))
+
+-- A FIRST SHORTEST LIST HAS AT MOST 2 ^ m BOXES, and half as many where there is a mark
+pub at-most : (m : ℕ) {need room : ℕ → Bool} {l : List ℕ} → Small m need → FirstShortest m need room l → length l ≤ 2 ^ m
+at-most m {need} {room} s f = let y = exists m need room s (fits-small m (f .fits)) in omega (arith, f .shortest (y .0) (y .1), y .2)
+
+pub at-most-half : (m : ℕ) {need room : ℕ → Bool} {l : List ℕ} → Small (suc m) need → FirstShortest (suc m) need room l → length l ≤ 2 ^ m
+at-most-half m {need} {room} s f =
+    let y = half-exists m need s in
+    omega (arith, f .shortest (y .0) (fits-room (suc m) room (fits-small (suc m) (f .fits)) (y .1)), y .2)

@@ -1,5 +1,5 @@
 -- The order of a fitting list, a box at a time: the box in front is the one that contains the lowest needed combination.
-use mathlib.Core.Path.{_≡_, sym, ap, _∙_, fun-ext}
+use mathlib.Core.Path.{_≡_, refl, sym, ap, ap₂, _∙_, fun-ext}
 use mathlib.Core.Bool.{Bool, true, false, not, _&&_, and-true, and-false, false≢true}
 use mathlib.Core.List.{List, [], _∷_}
 use Prim.Native.Nat.{ℕ, _^_, _<_, _≤_}
@@ -36,32 +36,21 @@ module _ (m : ℕ) where
         ∙ sym (ap (λ (x : Bool). need c && x) (h c e) ∙ and-false (need c)))
         (λ e. ap (λ (x : Bool). need c && not x && contains m a c) e ∙ ap (λ (x : Bool). x && contains m a c) (and-true (need c)))))
 
-    ahead-less : (x : ℕ) (l : List ℕ) → lowestNeeded m (less m need b) x ≡ lowestNeeded m need x → Away b l → Ahead m need x l → Ahead m (less m need b) x l
+    ahead-same : (x : ℕ) (l : List ℕ) → lowestNeeded m (less m need b) x ≡ lowestNeeded m need x → Away b l → Ahead m (less m need b) x l ≡ Ahead m need x l
     unfolding Ahead
-    ahead-less x [] e p h = tt
-    ahead-less x (a ∷ l) e p h = (omega (arith, low-less a (away-head b a l p)), ahead-less x l e (away-tail b a l p) (h .1))
-
-    ahead-more : (x : ℕ) (l : List ℕ) → lowestNeeded m (less m need b) x ≡ lowestNeeded m need x → Away b l → Ahead m (less m need b) x l → Ahead m need x l
-    unfolding Ahead
-    ahead-more x [] e p h = tt
-    ahead-more x (a ∷ l) e p h = (omega (arith, low-less a (away-head b a l p)), ahead-more x l e (away-tail b a l p) (h .1))
+    ahead-same x [] e p = refl
+    ahead-same x (a ∷ l) e p = rw (e, low-less a (away-head b a l p), ahead-same x l e (away-tail b a l p))
 
     -- boxes away from b rise the same with b and without
-    rising-less : (l : List ℕ) → Away b l → Rising m need l → Rising m (less m need b) l
+    rising-same : (l : List ℕ) → Away b l → Rising m (less m need b) l ≡ Rising m need l
     unfolding Rising
-    rising-less [] p h = tt
-    rising-less (a ∷ l) p h =
-        (ahead-less a l (low-less a (away-head b a l p)) (away-tail b a l p) (h .0), rising-less l (away-tail b a l p) (h .1))
-
-    rising-more : (l : List ℕ) → Away b l → Rising m (less m need b) l → Rising m need l
-    unfolding Rising
-    rising-more [] p h = tt
-    rising-more (a ∷ l) p h =
-        (ahead-more a l (low-less a (away-head b a l p)) (away-tail b a l p) (h .0), rising-more l (away-tail b a l p) (h .1))
+    rising-same [] p = refl
+    rising-same (a ∷ l) p =
+        ap₂ (λ (A B : Type 0). A × B) (ahead-same a l (low-less a (away-head b a l p)) (away-tail b a l p)) (rising-same l (away-tail b a l p))
 
     pub rising-tail : (l : List ℕ) → Away b l → Rising m need (b ∷ l) → Rising m (less m need b) l
     unfolding Rising
-    rising-tail l p h = rising-less l p (h .1)
+    rising-tail l p h = rw (rising-same l p) (h .1)
 
     module _ (some-need : lowestOf m need < 2 ^ m) where
       -- a box that contains the lowest needed combination is ahead of all that are away from it
@@ -81,7 +70,7 @@ module _ (m : ℕ) where
 
       pub rising-cons : contains m b (lowestOf m need) ≡ true → (l : List ℕ) → Away b l → Rising m (less m need b) l → Rising m need (b ∷ l)
       unfolding Rising
-      rising-cons e l p h = (ahead-all e l p, rising-more l p h)
+      rising-cons e l p h = (ahead-all e l p, rw (rising-same l p) at h)
 
       -- and the box in front of a rising fitting list contains it
       behind : (l : List ℕ) → Ahead m need b l → covered m l (lowestOf m need) ≡ true → ⊥

@@ -34,7 +34,7 @@ reached-no m need room left area true e h = absurd (true≢false e)
 reached-no m need room left area false e h = h
 
 -- ---- the lowest combination that is not covered
-module _ (m left need room spare : ℕ) (sets singles costs : List ℕ) (n : Node m sets singles costs need room left spare) where
+module _ {m left need room spare : ℕ} {sets singles costs : List ℕ} (n : Node m sets singles costs need room left spare) where
   need-wide : need < 2 ^ 32
   need-wide =
       let p : 2 ^ m ≤ 2 ^ 5 = pow-mono (n .marks) in
@@ -67,11 +67,11 @@ put-front : (xs ys zs : List ℕ) (b k : ℕ) → 0 < length xs → k ≤ length
 put-front [] ys zs b k h g = absurd (not-suc-le-zero h)
 put-front (x ∷ xs) ys zs b k h g = rw (add-one k) (ap (λ (l : List ℕ). b ∷ l) (take-append-le k ys zs g))
 
-module _ (m left need room spare : ℕ) (sets singles costs : List ℕ) (n : Node m sets singles costs need room (left + 1) spare) (hr : room < 2 ^ 32)
+module _ {m need room spare : ℕ} {sets singles costs : List ℕ} (left : ℕ) (n : Node m sets singles costs need room (left + 1) spare) (hr : room < 2 ^ 32)
     (c t b : ℕ) (lt : b < 3 ^ m) (is : b ≡ through m c t) where
   -- the sets that are handed on are those less the box
   rest-need : has (bitAnd need (4294967295 - entry sets b)) ≡ less m (has need) b
-  rest-need = has-less m b (entry sets b) (n .of-boxes b lt .1) need (need-wide m (left + 1) need room spare sets singles costs n) (n .of-boxes b lt .0)
+  rest-need = has-less m b (entry sets b) (n .of-boxes b lt .1) need (need-wide n) (n .of-boxes b lt .0)
 
   rest-room : has (bitAnd room (4294967295 - entry sets b)) ≡ less m (has room) b
   rest-room = has-less m b (entry sets b) (n .of-boxes b lt .1) room hr (n .of-boxes b lt .0)
@@ -123,8 +123,8 @@ module _ (m left need room spare : ℕ) (sets singles costs : List ℕ) (n : Nod
         (length-take-le left ys hy))
 
 -- no box through c leads to a list
-pub turns-end : (m left need room spare : ℕ) (sets singles costs : List ℕ) → Node m sets singles costs need room (left + 1) spare
+pub turns-end : {m need room spare : ℕ} {sets singles costs : List ℕ} (left : ℕ) → Node m sets singles costs need room (left + 1) spare
     → (c t : ℕ) → lowestOf m (has need) ≡ c → c < 2 ^ m → 2 ^ m ≤ t → Tried m (has need) (has room) left c t → AtLeast m (has need) (has room) (left + 1 + 1)
-turns-end m left need room spare sets singles costs n c t lowest small h tried l f =
+turns-end {m} {need} {room} left n c t lowest small h tried l f =
     let g = tried-all m (has need) (has room) left (n .least) c lowest small (λ u q. tried u (omega (arith, q, h))) l f in
     omega (arith, g)

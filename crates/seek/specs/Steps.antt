@@ -10,6 +10,7 @@ use Rattle.lists.specs.Lists.{Fits, FirstShortest}
 use Rattle.lists.proofs.Lay.{AtLeast}
 use Rattle.seek.specs.Answer.{has}
 
+-- an entry of a table
 abbrev pub entry : List ℕ → ℕ → ℕ
 entry t b = getD t b 0
 
@@ -39,10 +40,11 @@ pub record Node (m : ℕ) (sets singles costs : List ℕ) (need room left spare 
   pub least : AtLeast m (has need) (has room) left
   pub most : Spare m costs (has need) (has room) left spare
 
--- a fitting list costs at most `whole` for each of its boxes, and q - p
+-- the parts of a box that weights and costs are told in
 abbrev pub whole : ℕ
 whole = 65536
 
+-- a fitting list costs at most `whole` for each of its boxes, and q - p
 abbrev pub Certified : ℕ → List ℕ → (ℕ → Bool) → (ℕ → Bool) → ℕ → ℕ → Type 0
 Certified m costs need room p q = (l : List ℕ) → Fits m need room l → sumOver l (entry costs) + p ≤ length l * whole + q
 

@@ -2,7 +2,7 @@
 -- over the boxes through c holds that none of those passed leads to a list of so many boxes.
 use mathlib.Core.Path.{_≡_, refl, ap, _∙_}
 use mathlib.Core.Logic.{⊎-elim}
-use Prim.Native.Nat.{ℕ, _<_, _≤_, _+_, _-_, _^_, zero-le}
+use Prim.Native.Nat.{ℕ, _<_, _≤_, _+_, _-_, _^_}
 use native.Mathlib.Omega.{arith}
 use lib.Count.{trailing-le}
 use lib.ListN.{length, length-set, length-take, length-drop}
@@ -49,10 +49,10 @@ abbrev calls : ℕ → try-boxes-lts.Claims
 calls t = (power2-reads.Asked, power2-reads.Learnt, box-on-reads.Asked, box-on-reads.Learnt, cover-below t, cover.Post)
 
 cover-returns : (t : ℕ) → cover-lts.Need-returns (cover-calls t) (cover-at t) cover.Post
-cover-returns t c = let s = c .before .before in none-left (s .args .m) (s .args .left) (s .args .need) (s .args .room) (s .args .spare) (s .args .sets .now) (s .args .singles .now) (s .args .costs .now) (s .pre .1 .0) (c .if1 .taken) _
+cover-returns t c = let s = c .before .before in none-left (s .pre .1 .0) (c .if1 .taken) _
 
 cover-returns-2 : (t : ℕ) → cover-lts.Need-returns-2 (cover-calls t) (cover-at t) cover.Post
-cover-returns-2 t c = let s = c .before .before .before in one-left (s .args .m) (s .args .left) (s .args .need) (s .args .room) (s .args .spare) (s .args .sets .now) (s .args .singles .now) (s .args .costs .now) (s .pre .1 .0) (c .before .if1 .left) (c .if2 .taken)
+cover-returns-2 t c = let s = c .before .before .before in one-left (s .pre .1 .0) (c .before .if1 .left) (c .if2 .taken)
 
 cover-cast-c : (t : ℕ) → cover-lts.Need-cast-c (cover-calls t) (cover-at t) cover.Post
 cover-cast-c t c = omega (arith, trailing-le 32 (c .before .before .before .args .need))
@@ -67,10 +67,10 @@ cover-try-boxes-requires t c κs =
     let more = c .before .if2 .left in (
       omega (arith, s .pre .0, more),
       (
-        one-more (s .args .m) (s .args .left) (s .args .need) (s .args .room) (s .args .spare) (s .args .sets .now) (s .args .singles .now) (s .args .costs .now) (s .pre .1 .0) more,
+        one-more (s .pre .1 .0) more,
         omega (arith, s .pre .1 .1, more),
-        left-lowest (s .args .m) (s .args .left) (s .args .need) (s .args .room) (s .args .spare) (s .args .sets .now) (s .args .singles .now) (s .args .costs .now) (s .pre .1 .0) some,
-        left-lt (s .args .m) (s .args .left) (s .args .need) (s .args .room) (s .args .spare) (s .args .sets .now) (s .args .singles .now) (s .args .costs .now) (s .pre .1 .0) some,
+        left-lowest (s .pre .1 .0) some,
+        left-lt (s .pre .1 .0) some,
       ),
     )
 
@@ -137,7 +137,7 @@ try-boxes-cover-requires t c κs =
     let y = c .before .before .before .before .before .box-on in (
       omega (arith, s .pre .0),
       (
-        deeper (s .args .m) (s .args .left) (s .args .need) (s .args .room) (s .args .spare) (s .args .sets .now) (s .args .singles .now) (s .args .costs .now) (s .pre .1 .0) (s .fits .room .fits) (s .args .c) (l .t) (y .result) (y .ensures .1) (y .ensures .0) (c .before .before .before .if1 .taken) (omega (arith, c .before .if2 .taken)),
+        deeper (s .args .left) (s .pre .1 .0) (s .fits .room .fits) (s .args .c) (l .t) (y .result) (y .ensures .1) (y .ensures .0) (c .before .before .before .if1 .taken) (omega (arith, c .before .if2 .taken)),
         simp (length-take, length-drop, length-set) (omega (arith, s .pre .1 .1, l .inv .0)),
       ),
     )
@@ -151,7 +151,7 @@ try-boxes-returns t c =
     let l = c .before .before .before .before .before .before .before .before .before .before .before .loop in
     let y = c .before .before .before .before .before .before .before .before .before .box-on in
     let q = c .before .before .before .cover in
-    turn-hit (s .args .m) (s .args .left) (s .args .need) (s .args .room) (s .args .spare) (s .args .sets .now) (s .args .singles .now) (s .args .costs .now) (s .pre .1 .0) (s .fits .room .fits) (s .args .c) (l .t) (y .result) (y .ensures .1) (y .ensures .0) (c .before .before .before .before .before .before .before .if1 .taken) (s .pre .1 .2) (s .pre .1 .3) (l .inv .4) (l .area) _ _
+    turn-hit (s .args .left) (s .pre .1 .0) (s .fits .room .fits) (s .args .c) (l .t) (y .result) (y .ensures .1) (y .ensures .0) (c .before .before .before .before .before .before .before .if1 .taken) (s .pre .1 .2) (s .pre .1 .3) (l .inv .4) (l .area) _ _
     (omega (arith, s .pre .1 .1, l .inv .0))
     (omega (arith, simp (length-take, length-drop, length-set) at (q .kept .1 .1 .1 .1 .1 .1 .1 .1 .0), s .pre .1 .1, l .inv .0))
     (reached-yes _ _ _ _ _ (q .result) (c .if3 .taken) (q .ensures))
@@ -176,10 +176,10 @@ try-boxes-loop-again t c =
       l .inv .2,
       l .inv .3,
       ⊎-elim
-          (λ w. turn-deep (s .args .m) (s .args .left) (s .args .need) (s .args .room) (s .args .spare) (s .args .sets .now) (s .args .singles .now) (s .args .costs .now) (s .pre .1 .0) (s .fits .room .fits) (s .args .c) (l .t) (y .result) (y .ensures .1) (y .ensures .0) (w .0 .taken) (reached-no _ _ _ _ _ (w .4 .result) (w .7 .left) (w .4 .ensures)) (l .inv .4))
+          (λ w. turn-deep (s .args .left) (s .pre .1 .0) (s .fits .room .fits) (s .args .c) (l .t) (y .result) (y .ensures .1) (y .ensures .0) (w .0 .taken) (reached-no _ _ _ _ _ (w .4 .result) (w .7 .left) (w .4 .ensures)) (l .inv .4))
           (λ w. ⊎-elim
-          (λ v. turn-dear (s .args .m) (s .args .left) (s .args .need) (s .args .room) (s .args .spare) (s .args .sets .now) (s .args .singles .now) (s .args .costs .now) (s .pre .1 .0) (s .fits .room .fits) (s .args .c) (l .t) (y .result) (y .ensures .1) (y .ensures .0) (v .2 .left) (l .inv .4))
-          (λ v. turn-out (s .args .m) (s .args .left) (s .args .need) (s .args .room) (s .args .spare) (s .args .sets .now) (s .args .singles .now) (s .args .costs .now) (s .pre .1 .0) (s .fits .room .fits) (s .args .c) (l .t) (y .result) (y .ensures .1) (y .ensures .0) (v .0 .left) (l .inv .4)) w)
+          (λ v. turn-dear (s .args .left) (s .pre .1 .0) (s .fits .room .fits) (s .args .c) (l .t) (y .result) (y .ensures .1) (y .ensures .0) (v .2 .left) (l .inv .4))
+          (λ v. turn-out (s .args .left) (s .pre .1 .0) (s .fits .room .fits) (s .args .c) (l .t) (y .result) (y .ensures .1) (y .ensures .0) (v .0 .left) (l .inv .4)) w)
           (c .if1 .came),
     )
 
@@ -190,7 +190,7 @@ try-boxes-returns-2 : (t : ℕ) → try-boxes-lts.Need-returns-2 (calls t) (try-
 try-boxes-returns-2 t c =
     let s = c .before .before .before .before in
     let l = c .before .loop in
-    turns-end (s .args .m) (s .args .left) (s .args .need) (s .args .room) (s .args .spare) (s .args .sets .now) (s .args .singles .now) (s .args .costs .now) (s .pre .1 .0) (s .args .c) (l .t) (s .pre .1 .2) (s .pre .1 .3) (omega (arith, c .loop-test .left, l .inv .2)) (l .inv .4)
+    turns-end (s .args .left) (s .pre .1 .0) (s .args .c) (l .t) (s .pre .1 .2) (s .pre .1 .3) (omega (arith, c .loop-test .left, l .inv .2)) (l .inv .4)
 
 pub +cover+try-boxes-spec : {M : Type 1} → statement M
 +cover+try-boxes-spec = close μ-cover μ-try-boxes
