@@ -11,7 +11,7 @@ use borrow.Author.Tests.{eq-eqb, eqb-true}
 use Rattle.boxes.specs.Sums.{sum, only}
 use Rattle.boxes.specs.Boxes.{agrees, contains, sumIn, freeCount, allFree}
 use Rattle.boxes.proofs.Cases.{if, digit, and-left, and-right}
-use Rattle.boxes.proofs.Sums.{sum-ext, sum-zero, sum-le, sum-change, sum-pairs, sum-mul, sum-only, only-le, only-mono, only-zero, only-plus, only-times}
+use Rattle.boxes.proofs.Sums.{sum-ext, sum-zero, sum-le, sum-term, sum-change, sum-pairs, sum-mul, sum-only, only-le, only-mono, only-zero, only-plus, only-times}
 
 -- what contains something is a box, and what is contained a combination
 
@@ -91,6 +91,13 @@ sumIn-nothing m b f l = sum-ext (2 ^ m) _ _ (λ c lc. ap (λ (t : Bool). only t 
 pub sumIn-mono : (m b : ℕ) (f g : ℕ → ℕ) → ((c : ℕ) → c < 2 ^ m → f c ≤ g c) → sumIn m b f ≤ sumIn m b g
 unfolding sumIn
 sumIn-mono m b f g h = sum-le (2 ^ m) _ _ (λ c l. only-mono (contains m b c) (h c l))
+
+-- a combination's own share is at most the sum of any box that contains it
+pub sumIn-term : (m b c : ℕ) (f : ℕ → ℕ) → contains m b c ≡ true → f c ≤ sumIn m b f
+unfolding sumIn
+sumIn-term m b c f e =
+    let one : only (contains m b c) (f c) ≤ sumIn m b f = sum-term (2 ^ m) (λ x. only (contains m b x) (f x)) c (contains-combination m b c e) in
+    omega (arith, ap (λ (t : Bool). only t (f c)) e)
 
 -- the all-free box has every combination, so that its sum bounds every other
 

@@ -2,8 +2,9 @@
 -- calls alone, never from a kept number.
 use Prim.Native.Nat.{ℕ, _+_, _-_, _^_, _<_, _≤_}
 use mathlib.Core.Path.{_≡_}
-use mathlib.Core.Bool.{Bool, true, false, not, cond, _&&_, _||_}
-use mathlib.Core.List.{List, [], _∷_}
+use mathlib.Core.Bool.{true, false, not, cond, _&&_, _||_}
+use mathlib.Core.List.{List, [], _∷_, _++_}
+use lib.ListN.{length, drop}
 use lib.Dec.{eqb, leb}
 use Rattle.boxes.specs.Sums.{sum, only}
 use Rattle.sheet.specs.Limits.{mostMarks, mostHeld, marksOk, amountOk}
@@ -11,6 +12,8 @@ use Rattle.sheet.specs.Record.{Record}
 use Rattle.sheet.specs.Calls.{changeOf, receiveOf, withdrawOf}
 use Rattle.sheet.specs.declared.Sheet.{Sheet}
 use Rattle.sheet.specs.declared.Answer.{Answer}
+use Rattle.sheet.specs.declared.Value.{Value}
+use Rattle.lists.specs.Lists.{FirstShortest}
 use Rattle.histories.specs.declared.Call.{Call}
 use Rattle.histories.specs.declared.Call.the-variants.{Enter, Leave, Receive, Withdraw}
 
@@ -64,3 +67,11 @@ sheetAfter s (k ∷ ks) = sheetAfter (didOf s k .sheet) ks
 unfoldable pub answers : Sheet → List Call → List ℕ
 answers s [] = []
 answers s (k ∷ ks) = didOf s k .number ∷ answers (didOf s k .sheet) ks
+
+-- the list of the record's class in a lent area: the number 0 with the length of the first shortest list, which stands at the front, and the bytes
+-- behind it as they were
+pub record Given (r : Record) (area : List ℕ) (v : Value) (later : List ℕ) : Type 0 where
+  pub list : List ℕ
+  pub right : FirstShortest (r .marks) (r .class) (r .class) list
+  pub value : v ≡ record { number = 0; value = length list }
+  pub stands : later ≡ list ++ drop (length list) area

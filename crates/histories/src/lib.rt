@@ -1,7 +1,6 @@
 // Histories of a sheet (demand 3). A call on a sheet is a value here, so that a history is a list of them; `did` is the program that makes it.
 ghost use mathlib.Core.Path.{_≡_};
 ghost use Rattle.histories.specs.Histories.{didOf};
-
 use sheet::Answer;
 use sheet::Sheet;
 

@@ -1,0 +1,5 @@
+pub mod Numbers
+pub mod Kept
+pub mod Goods
+pub mod Histories
+pub mod Afresh
