@@ -52,3 +52,8 @@ passed false s n x = absurd (stuck {n = n} refl x)
 
 pub ended : {most at : ℕ} {l : List ℕ} {r q : Record} → Run most (end r) at l (good q) → (l ≡ []) × (r ≡ q)
 ended done = (refl, refl)
+
+-- a field is taken, its judgement told otherwise (a constructor's own arguments are found too late for rw and omega)
+pub goes : {most at : ℕ} {o : Outcome} (d : Due) (l : List ℕ) (s : Next) → width d ≤ length l → judge most d (number (take (width d) l)) ≡ s
+    → Run most s (at + width d) (drop (width d) l) o → Run most (due d) at l o
+goes {most} {at} {o} d l s h e x = field h (subst (λ (u : Next). Run most u (at + width d) (drop (width d) l) o) (sym e) x)

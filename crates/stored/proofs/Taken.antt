@@ -16,6 +16,7 @@ use Rattle.sheet.specs.Limits.{marksOk, mostHeld}
 use Rattle.sheet.specs.Record.{Record, opened}
 use Rattle.stored.specs.Fields.{number, entered, holding, Due, marks, class-count, class, held-count, held, seconds, Next, due, end, class-of, held-of, judge, good, Run, Reading}
 use Rattle.stored.specs.Form.{bytes, listed, section, alone, isHeld, withSeconds, form}
+use Rattle.stored.proofs.UpTo.{put-here, put-other}
 use Rattle.stored.proofs.Runs.{took, passed, ended}
 use Rattle.stored.proofs.Numbers.{Bytes, bytes-drop, bytes-split, byte-split}
 use Rattle.stored.proofs.Listed.{count, listed-skip, count-skip, listed-take, count-take}
@@ -38,13 +39,6 @@ record HeldGot (r q : Record) (left low : ℕ) (l : List ℕ) : Type 0 where
   most-held : sum (2 ^ r .marks) (q .times) ≤ mostHeld
   list : listed (isHeld (r .times)) (withSeconds (r .times)) low ++ l ≡ listed (isHeld (q .times)) (withSeconds (q .times)) (2 ^ r .marks)
   many : count (isHeld (r .times)) low + left ≡ count (isHeld (q .times)) (2 ^ r .marks)
-
-module _ (f : ℕ → ℕ) (c v : ℕ) where
-  set-here : cond (eqb c c) v (f c) ≡ v
-  set-here = rw (eq-eqb c c refl)
-
-  set-other : (x : ℕ) → (x ≡ c → ⊥) → cond (eqb x c) v (f x) ≡ f x
-  set-other x n = rw (ne-eqb x c n)
 
 held-got : {most : ℕ} {q : Record} (left low at s : ℕ) (r : Record) (l : List ℕ) → low ≤ 2 ^ r .marks → Bytes l → ((c : ℕ) → low ≤ c → r .times c ≡ 0)
     → sum (2 ^ r .marks) (r .times) ≡ s → s ≤ mostHeld → Run most (held-of r left low s) at l (good q) → HeldGot r q left low l
@@ -80,8 +74,8 @@ held-got {most} {q} (suc left) low at s r l h b z e k x =
     let fits : s + v ≤ mostHeld = leb-true (s + v) mostHeld (and-right (leb 1 v) _ (g .0)) in
     let t₁ = r .times in
     let t₂ = holding r c v .times in
-    let here : t₂ c ≡ v = set-here t₁ c v in
-    let other : (x : ℕ) → (x ≡ c → ⊥) → t₂ x ≡ t₁ x = set-other t₁ c v in
+    let here : t₂ c ≡ v = put-here c v t₁ in
+    let other : (x : ℕ) → (x ≡ c → ⊥) → t₂ x ≡ t₁ x = put-other c v t₁ in
     let grown : sum n t₂ ≡ s + v = sum-change n t₁ t₂ c v c-n (λ y ly ny. other y ny) (omega (arith, here, z c low-c)) ∙ ap (λ (y : ℕ). y + v) e in
     let i = held-got left (c + 1) (at + 1 + 4) (s + v) (holding r c v) l₂ (omega arith) (bytes-drop 4 l₁ b₁)
     (λ y ly. other y (λ d. omega arith) ∙ z y (omega arith)) grown fits (g .1) in
@@ -115,13 +109,6 @@ record ClassGot (most : ℕ) (r q : Record) (left low : ℕ) (l : List ℕ) : Ty
   list : listed (r .class) alone low ++ l ≡ listed cls alone (2 ^ r .marks) ++ tail
   many : count (r .class) low + left ≡ count cls (2 ^ r .marks)
 
-module _ (p : ℕ → Bool) (c : ℕ) where
-  in-here : (eqb c c || p c) ≡ true
-  in-here = rw (eq-eqb c c refl)
-
-  in-other : (x : ℕ) → (x ≡ c → ⊥) → (eqb x c || p x) ≡ p x
-  in-other x n = rw (ne-eqb x c n)
-
 class-got : {most : ℕ} {q : Record} (left low at : ℕ) (r : Record) (l : List ℕ) → low ≤ 2 ^ r .marks → Bytes l → ((c : ℕ) → low ≤ c → r .class c ≡ false)
     → Run most (class-of r left low) at l (good q) → ClassGot most r q left low l
 unfolding judge
@@ -145,8 +132,8 @@ class-got (suc left) low at r l h b z x =
     let q₁ = r .class in
     let q₂ = entered r c .class in
     let i = class-got left (c + 1) (at + 1) (entered r c) (drop 1 l) (omega arith) (bytes-drop 1 l b)
-    (λ y ly. in-other q₁ c y (λ d. omega arith) ∙ z y (omega arith)) (p .1) in
-    let as-before : (y : ℕ) → y < c → q₂ y ≡ q₁ y = λ y ly. in-other q₁ c y (λ d. omega arith) in
+    (λ y ly. put-other c true q₁ y (λ d. omega arith) ∙ z y (omega arith)) (p .1) in
+    let as-before : (y : ℕ) → y < c → q₂ y ≡ q₁ y = λ y ly. put-other c true q₁ y (λ d. omega arith) in
     let front = listed q₁ alone low in
     record {
       cls = i .cls;
@@ -157,8 +144,8 @@ class-got (suc left) low at r l h b z x =
       above = i .above;
       list =
           ap (λ (y : List ℕ). front ++ y) (byte-split l (w .0)) ∙ sym (append-assoc front (alone c) (drop 1 l))
-          ∙ ap (λ (y : List ℕ). y ++ drop 1 l) (sym (listed-take q₁ q₂ low c low-c z as-before (in-here q₁ c) alone alone (λ y ly. refl))) ∙ i .list;
-      many = omega (arith, i .many, count-take q₁ q₂ low c low-c z as-before (in-here q₁ c));
+          ∙ ap (λ (y : List ℕ). y ++ drop 1 l) (sym (listed-take q₁ q₂ low c low-c z as-before (put-here c true q₁) alone alone (λ y ly. refl))) ∙ i .list;
+      many = omega (arith, i .many, count-take q₁ q₂ low c low-c z as-before (put-here c true q₁));
     }
 
 -- all of it

@@ -1,7 +1,7 @@
 -- Reading the stored form (01, 'Stored form'): which field comes next, how each is judged once complete, and what a run over the bytes gives.
 -- Largest marks are a parameter.
 use Prim.Native.Nat.{ℕ, zero, suc, _+_, _*_, _^_, _≤_, _<_}
-use mathlib.Core.Bool.{Bool, cond, _&&_, _||_}
+use mathlib.Core.Bool.{true, cond, _&&_}
 use mathlib.Core.Path.{_≡_}
 use mathlib.Core.List.{List, [], _∷_}
 use lib.ListN.{length, take, drop}
@@ -14,12 +14,16 @@ unfoldable pub number : List ℕ → ℕ
 number [] = 0
 number (b ∷ l) = b + number l * 256
 
+-- f with v at c
+abbrev pub put : {A : Type 0} → ℕ → A → (ℕ → A) → ℕ → A
+put c v f x = cond (eqb x c) v (f x)
+
 -- a record with one more combination in the class, and with the seconds that a combination holds
 abbrev pub entered : Record → ℕ → Record
-entered r c = record { marks = r .marks; class = λ x. eqb x c || r .class x; times = r .times }
+entered r c = record { marks = r .marks; class = put c true (r .class); times = r .times }
 
 abbrev pub holding : Record → ℕ → ℕ → Record
-holding r c s = record { marks = r .marks; class = r .class; times = λ x. cond (eqb x c) s (r .times x) }
+holding r c s = record { marks = r .marks; class = r .class; times = put c s (r .times) }
 
 -- The field that is due; r is what was read before it. `left` more follow it in its section, `low` is the least combination that may stand there
 -- (one above the one before), `sum` the seconds so far.
