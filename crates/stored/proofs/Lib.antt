@@ -1,6 +1,9 @@
 pub mod UpTo
 pub mod Runs
+pub mod Refusals
 pub mod Numbers
 pub mod Listed
 pub mod Taken
 pub mod Back
+pub mod Trips
+pub mod Sample
