@@ -133,6 +133,11 @@ module _ (t : List ℕ) (m low at : ℕ) (d : Due) (to : ℕ → Next) (wide : w
       subst (λ (p : ℕ). Run mostMarks (due d) at (drop at t) (refused 10 p)) e (early-at t d at l (omega arith)))
 
 -- A count, likewise.
+pub count-inside : {t : List ℕ} {at size : ℕ} {c : Count} → CountRead t at size c → c .good ≡ true → c .at ≤ length t
+count-inside (count-early e h p) g = clash g e
+count-inside (many e h b p) g = clash g e
+count-inside (fits e h n b p) g = omega arith
+
 module _ (t : List ℕ) (m at : ℕ) (d : Due) (to : ℕ → Next) (wide : width d ≡ 2) (judged : (n : ℕ) → judge mostMarks d n ≡ cond (leb n (2 ^ m)) (to n) (wrong 10)) where
   judged-at : judge mostMarks d (numberAt t at (width d)) ≡ cond (leb (numberAt t at 2) (2 ^ m)) (to (numberAt t at 2)) (wrong 10)
   judged-at = ap (λ (w : ℕ). judge mostMarks d (numberAt t at w)) wide ∙ judged (numberAt t at 2)
@@ -144,11 +149,10 @@ module _ (t : List ℕ) (m at : ℕ) (d : Due) (to : ℕ → Next) (wide : width
       (faulty-at t d at 10 (omega arith) (judged-at ∙ rw (lt-leb (numberAt t at 2) (2 ^ m) b)))
   count-wrong (fits e h n b p) l g = clash e g
 
-  pub count-taken : {c : Count} → CountRead t at (2 ^ m) c → c .good ≡ true → (c .at ≤ length t) × Leads t (due d) at (to (c .n)) (c .at)
+  pub count-taken : {c : Count} → CountRead t at (2 ^ m) c → c .good ≡ true → Leads t (due d) at (to (c .n)) (c .at)
   count-taken (count-early e h p) g = clash g e
   count-taken (many e h b p) g = clash g e
   count-taken {c} (fits e h n b p) g =
-      (omega arith,
       subst (λ (x : ℕ). Leads t (due d) at (to x) (c .at)) (sym n)
       (subst (λ (x : ℕ). Leads t (due d) at (to (numberAt t at 2)) x) (ap (λ (w : ℕ). at + w) wide ∙ sym p)
-      (leads-field t d at (to (numberAt t at 2)) (omega arith) (judged-at ∙ rw (le-leb (numberAt t at 2) (2 ^ m) (omega arith))))))
+      (leads-field t d at (to (numberAt t at 2)) (omega arith) (judged-at ∙ rw (le-leb (numberAt t at 2) (2 ^ m) (omega arith)))))

@@ -15,9 +15,9 @@ use Rattle.sheet.specs.Limits.{mostMarks, mostHeld}
 use Rattle.sheet.specs.Record.{Record, outOf}
 use Rattle.stored.specs.Fields.{put, entered, holding, Next, due, end, class, held-count, held, seconds, class-of, held-of, judge, refused, Run}
 use Rattle.stored.proofs.UpTo.{put-here, put-other}
-use Rattle.reading.specs.Parts.{numberAt, Leads, Stands, SectionRead, bad, good}
+use Rattle.reading.specs.Parts.{numberAt, Leads, Stands, Got, SectionRead, bad, good}
 use Rattle.reading.specs.declared.Section.{Section}
-use Rattle.reading.proofs.Offsets.{leads-field, faulty-at, early-at, combination-taken, combination-wrong}
+use Rattle.reading.proofs.Offsets.{then, then-run, leads-field, faulty-at, early-at, combination-taken, combination-wrong}
 
 -- a combination is due where some are left
 class-is : (r : Record) (left low : ℕ) → 0 < left → class-of r left low ≡ due (class r (left - 1) low)
@@ -78,10 +78,17 @@ told-set N own c w g k h here other told x l =
     (λ q. ap (entry (set own c w)) q ∙ getD-set-same own c w 0 h ∙ sym here ∙ ap k (sym q))
     (λ q. getD-set-other own c x w 0 q ∙ told x l ∙ sym (other x q))
 
--- What a section's loop keeps: v was read so far, and the run leads from `from` to `to`.
-pub record Going (t : List ℕ) (m : ℕ) {X Y : Type 0} (view : Y → ℕ → ℕ) (from : X → Next) (start : ℕ) (to : X → Y → Next) (own : List ℕ) (at : ℕ) : Type 0 where
-  pub inside : at ≤ length t
-  pub long : length own ≡ 32
-  pub value : Y
-  pub told : (c : ℕ) → c < 2 ^ m → entry own c ≡ view value c
-  pub leads : (x : X) → Leads t (from x) start (to x value) at
+-- a section behind what leads to it
+pub section-after : {t : List ℕ} {m : ℕ} {X Y : Type 0} {view : Y → ℕ → ℕ} {from from₁ : X → Next} {at at₁ : ℕ} {to : X → Y → Next} {p : Section}
+    → ((x : X) → Leads t (from x) at (from₁ x) at₁) → SectionRead t m view from₁ at₁ to p → SectionRead t m view from at to p
+section-after l (bad e r) = bad e (λ x. then-run (l x) (r x))
+section-after l (good e g) = good e (record { inside = g .inside; value = g .value; told = g .told; leads = λ x. then (l x) (g .leads x) })
+
+module _ {t : List ℕ} {m : ℕ} {X Y : Type 0} {view : Y → ℕ → ℕ} {from : X → Next} {start : ℕ} {to : X → Y → Next} {p : Section} where
+  pub section-bad : SectionRead t m view from start to p → p .good ≡ false → (x : X) → Run mostMarks (from x) start (drop start t) (refused 10 (p .at))
+  section-bad (bad e r) g = r
+  section-bad (good e r) g = clash e g
+
+  pub section-good : SectionRead t m view from start to p → p .good ≡ true → Got t m view from start to (p .own) (p .at)
+  section-good (bad e r) g = clash g e
+  section-good (good e r) g = r

@@ -31,12 +31,18 @@ pub data CountRead (t : List ℕ) (at size : ℕ) : Count → Type 0 where
 pub record Leads (t : List ℕ) (s : Next) (at : ℕ) (u : Next) (next : ℕ) : Type 0 where
   pub on : (o : Outcome) → Run mostMarks u next (drop next t) o → Run mostMarks s at (drop at t) o
 
--- A section: refused with 10 and the place, or read. `to x v` is due behind it, where x is the rest of the record, whatever that is, and v what was read;
+-- What was read of a section up to an offset: v, and the run leads from `from x` to `to x v`, where x is the rest of the record, whatever that is.
 -- `view v c` is what the combination c has of its own.
-pub data SectionRead (t : List ℕ) (m : ℕ) {X Y : Type 0} (view : Y → ℕ → ℕ) (from : X → Next) (at : ℕ) (to : X → Y → Next) : Section → Type 0 where
-  bad : {p : Section} → p .good ≡ false → ((x : X) → Run mostMarks (from x) at (drop at t) (refused 10 (p .at))) → SectionRead t m view from at to p
-  good : {p : Section} → p .good ≡ true → p .at ≤ length t → (v : Y) → ((c : ℕ) → c < 2 ^ m → entry (p .own) c ≡ view v c)
-      → ((x : X) → Leads t (from x) at (to x v) (p .at)) → SectionRead t m view from at to p
+pub record Got (t : List ℕ) (m : ℕ) {X Y : Type 0} (view : Y → ℕ → ℕ) (from : X → Next) (start : ℕ) (to : X → Y → Next) (own : List ℕ) (at : ℕ) : Type 0 where
+  pub inside : at ≤ length t
+  pub value : Y
+  pub told : (c : ℕ) → c < 2 ^ m → entry own c ≡ view value c
+  pub leads : (x : X) → Leads t (from x) start (to x value) at
+
+-- a section: refused with 10 and the place, or read
+pub data SectionRead (t : List ℕ) (m : ℕ) {X Y : Type 0} (view : Y → ℕ → ℕ) (from : X → Next) (start : ℕ) (to : X → Y → Next) : Section → Type 0 where
+  bad : {p : Section} → p .good ≡ false → ((x : X) → Run mostMarks (from x) start (drop start t) (refused 10 (p .at))) → SectionRead t m view from start to p
+  good : {p : Section} → p .good ≡ true → Got t m view from start to (p .own) (p .at) → SectionRead t m view from start to p
 
 abbrev pub about : ℕ → (ℕ → Bool) → (ℕ → ℕ) → Record
 about m cls ts = record { marks = m; class = cls; times = ts }
