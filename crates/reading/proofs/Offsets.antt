@@ -1,8 +1,8 @@
 -- A field at an offset of the bytes t: taken, faulty, or not complete. A count, and a combination of either section.
-use Prim.Native.Nat.{ℕ, zero, suc, _+_, _-_, _*_, _^_, _≤_, _<_}
+use Prim.Native.Nat.{ℕ, suc, _+_, _-_, _*_, _^_, _≤_, _<_}
 use mathlib.Core.Path.{_≡_, refl, sym, ap, _∙_, subst}
-use mathlib.Core.Bool.{Bool, true, false, cond, _&&_}
-use mathlib.Core.List.{List, [], _∷_}
+use mathlib.Core.Bool.{true, false, cond, _&&_}
+use mathlib.Core.List.{List}
 use native.Mathlib.Nat.{pow-suc, pow-le-pow-right}
 use native.Mathlib.Numerals.{add-one}
 use native.Mathlib.Omega.{arith}
@@ -14,7 +14,7 @@ use Rattle.boxes.specs.Decides.{Decides}
 use Rattle.boxes.proofs.Cases.{below-or, clash, decided-no}
 use Rattle.sheet.specs.Limits.{mostMarks, mostHeld}
 use Rattle.sheet.specs.Record.{Record}
-use Rattle.stored.specs.Fields.{number, Due, width, Next, due, end, wrong, judge, Outcome, good, refused, Run, done, over, early, faulty, field}
+use Rattle.stored.specs.Fields.{number, Due, width, Next, due, end, wrong, judge, Outcome, good, refused, Run, done, over, early, faulty}
 use Rattle.stored.proofs.Runs.{goes}
 use Rattle.stored.proofs.Numbers.{number-one}
 use Rattle.reading.specs.Parts.{numberAt, Leads, Stands, CountRead, early as count-early, many, fits}

@@ -1,23 +1,21 @@
 -- The two sections: how the run goes from one combination to the next, and what their loops keep.
 use Prim.Native.Nat.{ℕ, zero, suc, _+_, _-_, _^_, _≤_, _<_}
-use mathlib.Core.Path.{_≡_, refl, sym, ap, _∙_, subst}
-use mathlib.Core.Bool.{Bool, true, false, not}
+use mathlib.Core.Path.{_≡_, refl, sym, ap, _∙_}
+use mathlib.Core.Bool.{true, false}
 use mathlib.Core.List.{List}
 use native.Mathlib.Numerals.{sub-one}
 use native.Mathlib.Omega.{arith}
-use lib.ListN.{length, getD, drop, set, length-set}
+use lib.ListN.{length, getD, drop, set}
 use lib.Seq.{getD-set-same, getD-set-other}
 use borrow.Author.Tests.{le-leb, lt-leb}
-use Rattle.boxes.specs.Sums.{only}
 use Rattle.boxes.proofs.Cases.{same-or, below-or, clash}
 use Rattle.tables.specs.Tables.{entry}
 use Rattle.sheet.specs.Limits.{mostMarks, mostHeld}
-use Rattle.sheet.specs.Record.{Record, outOf}
-use Rattle.stored.specs.Fields.{put, entered, holding, Next, due, end, class, held-count, held, seconds, class-of, held-of, judge, refused, Run}
-use Rattle.stored.proofs.UpTo.{put-here, put-other}
+use Rattle.sheet.specs.Record.{Record}
+use Rattle.stored.specs.Fields.{entered, holding, Next, due, end, class, held-count, held, seconds, class-of, held-of, judge, refused, Run}
 use Rattle.reading.specs.Parts.{numberAt, Leads, Stands, Got, SectionRead, bad, good}
 use Rattle.reading.specs.declared.Section.{Section}
-use Rattle.reading.proofs.Offsets.{then, then-run, leads-field, faulty-at, early-at, combination-taken, combination-wrong}
+use Rattle.reading.proofs.Offsets.{then, then-run, leads-field, faulty-at, combination-taken, combination-wrong}
 
 -- a combination is due where some are left
 class-is : (r : Record) (left low : ℕ) → 0 < left → class-of r left low ≡ due (class r (left - 1) low)
@@ -82,7 +80,7 @@ told-set N own c w g k h here other told x l =
 pub section-after : {t : List ℕ} {m : ℕ} {X Y : Type 0} {view : Y → ℕ → ℕ} {from from₁ : X → Next} {at at₁ : ℕ} {to : X → Y → Next} {p : Section}
     → ((x : X) → Leads t (from x) at (from₁ x) at₁) → SectionRead t m view from₁ at₁ to p → SectionRead t m view from at to p
 section-after l (bad e r) = bad e (λ x. then-run (l x) (r x))
-section-after l (good e g) = good e (record { inside = g .inside; value = g .value; told = g .told; leads = λ x. then (l x) (g .leads x) })
+section-after l (good e g) = good e (record { inside = g .inside; long = g .long; value = g .value; told = g .told; leads = λ x. then (l x) (g .leads x) })
 
 module _ {t : List ℕ} {m : ℕ} {X Y : Type 0} {view : Y → ℕ → ℕ} {from : X → Next} {start : ℕ} {to : X → Y → Next} {p : Section} where
   pub section-bad : SectionRead t m view from start to p → p .good ≡ false → (x : X) → Run mostMarks (from x) start (drop start t) (refused 10 (p .at))

@@ -35,6 +35,7 @@ pub record Leads (t : List ℕ) (s : Next) (at : ℕ) (u : Next) (next : ℕ) : 
 -- `view v c` is what the combination c has of its own.
 pub record Got (t : List ℕ) (m : ℕ) {X Y : Type 0} (view : Y → ℕ → ℕ) (from : X → Next) (start : ℕ) (to : X → Y → Next) (own : List ℕ) (at : ℕ) : Type 0 where
   pub inside : at ≤ length t
+  pub long : 2 ^ m ≤ length own
   pub value : Y
   pub told : (c : ℕ) → c < 2 ^ m → entry own c ≡ view value c
   pub leads : (x : X) → Leads t (from x) start (to x value) at

@@ -1,5 +1,4 @@
 // The held section: a count, and the held combinations with their seconds.
-ghost use mathlib.Core.Path.{_≡_};
 ghost use Prim.Native.Nat.{_+_, _≤_};
 ghost use lib.ListN.{length};
 ghost use Rattle.boxes.specs.Decides.{Decides};

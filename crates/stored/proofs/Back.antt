@@ -1,21 +1,20 @@
 -- The form of a record is read as that record, with nothing at 2^m and above. A section goes by induction on the combinations scanned, whatever bytes
 -- follow it: the states S of the run go from what is taken below n to what is taken below n + 1.
 use Prim.Native.Nat.{ℕ, zero, suc, _+_, _^_, _≤_, _<_}
-use mathlib.Core.Path.{_≡_, refl, sym, ap, ap₂, _∙_, subst, fun-ext}
-use mathlib.Core.Bool.{Bool, true, false, cond, _&&_, _||_}
+use mathlib.Core.Path.{_≡_, refl, sym, ap, ap₂, _∙_, subst}
+use mathlib.Core.Bool.{Bool, true, false, cond}
 use mathlib.Core.List.{List, [], _∷_, _++_, append-assoc, append-nil}
-use native.Mathlib.Nat.{add-zero, zero-add, add-assoc, pow-le-pow-right}
+use native.Mathlib.Nat.{add-zero, zero-add, pow-le-pow-right}
 use native.Mathlib.Omega.{arith}
 use lib.ListN.{length, take, drop, length-append}
-use lib.Dec.{eqb, leb, ltb}
-use borrow.Author.Tests.{le-leb, lt-ltb, le-ltb, eq-eqb, ne-eqb, ltb-true, ltb-false}
+use borrow.Author.Tests.{le-leb, lt-ltb, ltb-true, ltb-false}
 use Rattle.boxes.specs.Sums.{sum, only}
-use Rattle.boxes.proofs.Cases.{below-or, same-or}
-use Rattle.sheet.specs.Limits.{marksOk, mostHeld}
+use Rattle.boxes.proofs.Cases.{below-or}
+use Rattle.sheet.specs.Limits.{mostHeld}
 use Rattle.sheet.specs.Record.{Record, opened}
 use Rattle.sheet.specs.Sound.{sizeOf}
 use Rattle.sheet.proofs.Tests.{marks-most}
-use Rattle.stored.specs.Fields.{number, put, entered, holding, Due, marks, class-count, class, held-count, held, seconds, Next, due, end, class-of, held-of, judge, width, Outcome, good, Run, done, Reading}
+use Rattle.stored.specs.Fields.{number, put, Due, marks, class-count, class, held-count, held, seconds, Next, due, end, class-of, held-of, judge, width, Outcome, good, Run, done, Reading}
 use Rattle.stored.specs.Form.{bytes, listed, section, alone, isHeld, withSeconds, form}
 use Rattle.stored.proofs.UpTo.{upTo, upTo-none, upTo-skip, upTo-put}
 use Rattle.stored.proofs.Runs.{goes}

@@ -1,13 +1,13 @@
 -- Listed combinations: how long the list is, what it depends on, and how it grows at the next one that the test takes.
 use Prim.Native.Nat.{ℕ, zero, suc, _+_, _*_, _≤_, _<_}
-use mathlib.Core.Path.{_≡_, refl, sym, ap, ap₂, _∙_, subst}
+use mathlib.Core.Path.{_≡_, refl, ap, ap₂, _∙_}
 use mathlib.Core.Bool.{Bool, true, false, cond}
-use mathlib.Core.List.{List, [], _∷_, _++_, append-nil}
+use mathlib.Core.List.{List, [], _++_, append-nil}
 use native.Mathlib.Numerals.{add-one}
 use native.Mathlib.Omega.{arith}
 use lib.ListN.{length, length-append}
 use Rattle.boxes.specs.Sums.{sum, only}
-use Rattle.boxes.proofs.Cases.{if, below-or}
+use Rattle.boxes.proofs.Cases.{below-or}
 use Rattle.boxes.proofs.Sums.{sum-le, sum-ones, only-le}
 use Rattle.stored.specs.Form.{listed, alone}
 

@@ -5,7 +5,7 @@ use mathlib.Core.List.{List, [], _∷_, _++_}
 use native.Mathlib.Nat.{pow-suc}
 use native.Mathlib.Omega.{arith}
 use lib.ListN.{length, getD, take, drop, take-append-drop}
-use lib.Seq.{take-at, drop-at, getD-drop, drop-cons}
+use lib.Seq.{take-at, drop-at, getD-drop}
 use Rattle.stored.specs.Fields.{number}
 use Rattle.stored.specs.Form.{bytes}
 

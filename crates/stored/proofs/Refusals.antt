@@ -6,9 +6,8 @@ use mathlib.Core.List.{List}
 use mathlib.Core.Logic.{_⊎_, inl, inr, ⊎-elim}
 use native.Mathlib.Omega.{arith}
 use lib.Dec.{leb, ltb}
-use Rattle.boxes.proofs.Cases.{if, clash}
 use Rattle.sheet.specs.Limits.{marksOk, mostHeld}
-use Rattle.sheet.specs.Record.{Record, opened}
+use Rattle.sheet.specs.Record.{Record}
 use Rattle.stored.specs.Fields.{entered, holding, Due, marks, class-count, class, held-count, held, seconds, Next, due, end, wrong, class-of, held-of, judge, refused, Run, over, early, faulty, field, Reading}
 use Rattle.stored.proofs.Runs.{passed}
 

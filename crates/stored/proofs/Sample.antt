@@ -1,11 +1,9 @@
 -- 01's sample sheet, stored; and what it is read as.
-use Prim.Native.Nat.{ℕ, _+_, _≤_}
 use mathlib.Core.Path.{_≡_, refl}
-use mathlib.Core.Bool.{Bool, cond}
-use mathlib.Core.List.{List, [], _∷_}
+use mathlib.Core.Bool.{cond}
+use mathlib.Core.List.{[], _∷_}
 use lib.Dec.{eqb, ltb}
 use Rattle.boxes.specs.Sums.{sum}
-use Rattle.sheet.specs.Limits.{mostMarks}
 use Rattle.sheet.specs.Record.{Record}
 use Rattle.stored.specs.Form.{bytes, listed, form}
 

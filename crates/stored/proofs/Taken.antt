@@ -1,20 +1,20 @@
 -- What is read: its bytes are the form of the record that it is read as, so writing it gives the same bytes; and that record is one that a sheet can have.
 -- Each section goes by induction on how many combinations are left: what was listed so far with the bytes to come is the whole list.
 use Prim.Native.Nat.{ℕ, zero, suc, _+_, _^_, _≤_, _<_}
-use mathlib.Core.Path.{_≡_, refl, sym, ap, ap₂, _∙_, subst}
-use mathlib.Core.Bool.{Bool, true, false, cond, _&&_, _||_}
-use mathlib.Core.List.{List, [], _∷_, _++_, append-assoc, append-nil}
+use mathlib.Core.Path.{_≡_, refl, sym, ap, _∙_, subst}
+use mathlib.Core.Bool.{Bool, true, false, _&&_}
+use mathlib.Core.List.{List, _∷_, _++_, append-assoc, append-nil}
 use native.Mathlib.Nat.{add-zero, zero-add}
 use native.Mathlib.Omega.{arith}
-use lib.ListN.{length, take, drop}
-use lib.Dec.{eqb, leb, ltb}
-use borrow.Author.Tests.{leb-true, ltb-true, lt-ltb, le-ltb, eq-eqb, ne-eqb}
-use Rattle.boxes.specs.Sums.{sum, only}
+use lib.ListN.{take, drop}
+use lib.Dec.{leb, ltb}
+use borrow.Author.Tests.{leb-true, ltb-true, lt-ltb, le-ltb}
+use Rattle.boxes.specs.Sums.{sum}
 use Rattle.boxes.proofs.Cases.{and-left, and-right}
 use Rattle.boxes.proofs.Sums.{sum-change, sum-zero}
 use Rattle.sheet.specs.Limits.{marksOk, mostHeld}
 use Rattle.sheet.specs.Record.{Record, opened}
-use Rattle.stored.specs.Fields.{number, entered, holding, Due, marks, class-count, class, held-count, held, seconds, Next, due, end, class-of, held-of, judge, good, Run, Reading}
+use Rattle.stored.specs.Fields.{number, entered, holding, marks, class-count, class, held-count, seconds, due, class-of, held-of, judge, good, Run, Reading}
 use Rattle.stored.specs.Form.{bytes, listed, section, alone, isHeld, withSeconds, form}
 use Rattle.stored.proofs.UpTo.{put-here, put-other}
 use Rattle.stored.proofs.Runs.{took, passed, ended}

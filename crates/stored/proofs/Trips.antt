@@ -17,7 +17,7 @@ use Rattle.tables.specs.Tables.{own}
 use Rattle.tables.proofs.Entries.{afresh-own}
 use Rattle.sheet.specs.Limits.{marksOk, mostHeld}
 use Rattle.sheet.specs.Record.{Record, sheetOf, opened, outOf}
-use Rattle.sheet.specs.Sound.{TimesSound, sizeOf, recordOf}
+use Rattle.sheet.specs.Sound.{sizeOf, recordOf}
 use Rattle.sheet.specs.declared.Sheet.{Sheet}
 use Rattle.sheet.specs.declared.Value.{Value}
 use Rattle.sheet.proofs.Tests.{marks-most}
@@ -31,8 +31,8 @@ use Rattle.stored.proofs.UpTo.{upTo-low}
 use Rattle.stored.proofs.Runs.{one}
 use Rattle.stored.proofs.Refusals.{never-done}
 use Rattle.stored.proofs.Numbers.{Bytes, bytes-length}
-use Rattle.stored.proofs.Listed.{count, count-le, listed-ext, listed-length}
-use Rattle.stored.proofs.Taken.{Storable, Taken, taken}
+use Rattle.stored.proofs.Listed.{count-le, listed-ext, listed-length}
+use Rattle.stored.proofs.Taken.{Storable, taken}
 use Rattle.stored.proofs.Back.{cut, reads-back}
 
 -- two records of the same marks with the same class and times below 2^m

@@ -3,7 +3,7 @@ use Prim.Native.Nat.{ℕ, _≤_, _<_}
 use mathlib.Core.Path.{_≡_}
 use mathlib.Core.List.{List, _++_}
 use lib.ListN.{length, drop}
-use Rattle.sheet.specs.Record.{Record, sheetOf, opened}
+use Rattle.sheet.specs.Record.{sheetOf, opened}
 use Rattle.sheet.specs.Sound.{Ready, recordOf}
 use Rattle.sheet.specs.declared.Sheet.{Sheet}
 use Rattle.sheet.specs.declared.Value.{Value}

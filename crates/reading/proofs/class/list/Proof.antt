@@ -1,9 +1,9 @@
 -- Behind each combination the run has led to the next; a combination that may not stand there is refused at its offset.
-use Prim.Native.Nat.{ℕ, _+_, _-_, _^_, _≤_, _<_}
+use Prim.Native.Nat.{ℕ, _+_, _-_, _^_, _≤_}
 use mathlib.Core.Bool.{Bool, true, false, not}
-use mathlib.Core.Path.{_≡_, refl, sym, ap, _∙_, subst}
+use mathlib.Core.Path.{_≡_, refl, sym, ap, subst}
 use native.Mathlib.Omega.{arith}
-use lib.ListN.{length, getD, length-set}
+use lib.ListN.{length-set}
 use borrow.Author.Needs.{needs}
 use borrow.Author.Tests.{not-true, not-false}
 use Rattle.reading.proofs.Sections.{class-turn, class-stop, class-end, told-set}
@@ -21,7 +21,7 @@ use Rattle.reading.proofs.class.list.Tie as tie
 abbrev Inv-loop : tie.InvT-loop
 Inv-loop t start m n size own₀ at₀ low₀ left₀ own at low left =
     (size ≡ 2 ^ m) × (size ≤ 32)
-    × (length own ≡ 32) × Got t m outOf (λ (ts : ℕ → ℕ). class-of (about m (λ j. false) ts) n 0) start (λ (ts : ℕ → ℕ) (cls : ℕ → Bool). class-of (about m cls ts) left low) own at
+    × Got t m outOf (λ (ts : ℕ → ℕ). class-of (about m (λ j. false) ts) n 0) start (λ (ts : ℕ → ℕ) (cls : ℕ → Bool). class-of (about m cls ts) left low) own at
 
 abbrev μ-loop : tie.MeasureT-loop
 μ-loop t start m n size own₀ at₀ low₀ left₀ own at low left = left
@@ -38,9 +38,9 @@ loop-holds c =
     let e = c .power2 .ensures .0 in (
       e,
       omega (arith, e, combinations-fit (s .args .m) (s .pre .0)),
-      refl,
       record {
         inside = s .pre .1;
+        long = combinations-fit (s .args .m) (s .pre .0);
         value = λ j. false;
         told = λ j l. same-entry (s .args .m) 1 j (s .pre .0) l;
         leads = λ ts. at-start (s .args .t .now) (class-of (about (s .args .m) (λ j. false) ts) (s .args .n) 0) (s .args .start);
@@ -53,7 +53,7 @@ stands-requires c κs = search needs
 returns : tie.Need-returns Inv-loop μ-loop
 returns c =
     let l = c .before .before .before .loop in
-    let g = l .inv .3 in
+    let g = l .inv .2 in
     let s = c .before .before .before .before .before .before in
     bad refl
     (λ ts.
@@ -88,7 +88,7 @@ loop-less c = omega arith
 loop-again : tie.Need-loop-again Inv-loop μ-loop
 loop-again c =
     let l = c .before .before .before .before .before .loop in
-    let g = l .inv .3 in
+    let g = l .inv .2 in
     let s = c .before .before .before .before .before .before .before .before in
     let t = s .args .t .now in
     let m = s .args .m in
@@ -98,12 +98,12 @@ loop-again c =
     let st = subst (λ (n : ℕ). Stands t (l .at) (l .low) n) (l .inv .0) (standing (c .before .before)) in (
       l .inv .0,
       l .inv .1,
-      length-set (l .own) k 0 ∙ l .inv .2,
       record {
+        long = omega (arith, length-set (l .own) k 0, g .long);
         inside = omega (arith, st .inside);
         value = put k true p;
         told =
-            told-set (2 ^ m) (l .own) k 0 (outOf p) (outOf (put k true p)) (omega (arith, l .inv .2, st .below)) (ap (λ (b : Bool). only (not b) 1) (put-here k true p))
+            told-set (2 ^ m) (l .own) k 0 (outOf p) (outOf (put k true p)) (omega (arith, g .long, st .below)) (ap (λ (b : Bool). only (not b) 1) (put-here k true p))
             (λ x q. ap (λ (b : Bool). only (not b) 1) (put-other k true p x q)) (g .told);
         leads = λ ts.
             subst (λ (j : ℕ). Leads t (class-of (about m (λ i. false) ts) (s .args .n) 0) (s .args .start) (class-of (about m (put j true p) ts) (l .left - 1) (j + 1)) (l .at + 1))
@@ -114,11 +114,12 @@ loop-again c =
 returns-2 : tie.Need-returns-2 Inv-loop μ-loop
 returns-2 c =
     let l = c .before .loop in
-    let g = l .inv .3 in
+    let g = l .inv .2 in
     let s = c .before .before .before .before in
     good refl
     (record {
       inside = g .inside;
+      long = g .long;
       value = g .value;
       told = g .told;
       leads = λ ts.

@@ -1,9 +1,9 @@
 -- As for the class, and the seconds of each combination are judged before they are added.
-use Prim.Native.Nat.{ℕ, _+_, _-_, _^_, _≤_, _<_}
+use Prim.Native.Nat.{ℕ, _+_, _-_, _^_, _≤_}
 use mathlib.Core.Bool.{Bool}
-use mathlib.Core.Path.{_≡_, refl, sym, _∙_, subst}
+use mathlib.Core.Path.{_≡_, refl, sym, subst}
 use native.Mathlib.Omega.{arith}
-use lib.ListN.{length, getD, length-set}
+use lib.ListN.{length, length-set}
 use borrow.Author.Needs.{needs}
 use borrow.Author.Tests.{not-true, not-false}
 use Rattle.reading.proofs.Sections.{held-turn, held-stop, held-end, seconds-turn, seconds-stop, told-set}
@@ -20,7 +20,7 @@ use Rattle.reading.proofs.held.list.Tie as tie
 abbrev Inv-loop : tie.InvT-loop
 Inv-loop t start m n size own₀ at₀ low₀ sum₀ left₀ own at low sum left =
     (size ≡ 2 ^ m) × (size ≤ 32) × (sum ≤ mostHeld)
-    × (length own ≡ 32) × Got t m (λ (ts : ℕ → ℕ). ts) (λ (cls : ℕ → Bool). held-of (about m cls (λ j. 0)) n 0 0) start (λ (cls : ℕ → Bool) (ts : ℕ → ℕ). held-of (about m cls ts) left low sum) own at
+    × Got t m (λ (ts : ℕ → ℕ). ts) (λ (cls : ℕ → Bool). held-of (about m cls (λ j. 0)) n 0 0) start (λ (cls : ℕ → Bool) (ts : ℕ → ℕ). held-of (about m cls ts) left low sum) own at
 
 abbrev μ-loop : tie.MeasureT-loop
 μ-loop t start m n size own₀ at₀ low₀ sum₀ left₀ own at low sum left = left
@@ -31,10 +31,10 @@ standing c = c .before .stands .ensures .yes (not-false _ (c .if1 .left))
 -- a combination was taken, and its seconds are due
 to-seconds : (c : tie.After-wide Inv-loop μ-loop) (cls : ℕ → Bool)
     → Leads (c .before .before .before .before .before .before .before .before .args .t .now) (held-of (about (c .before .before .before .before .before .before .before .before .args .m) cls (λ j. 0)) (c .before .before .before .before .before .before .before .before .args .n) 0 0) (c .before .before .before .before .before .before .before .before .args .start)
-    (due (seconds (about (c .before .before .before .before .before .before .before .before .args .m) cls (c .before .before .before .before .before .loop .inv .4 .value)) (c .before .before .before .before .before .loop .left - 1) (c .wide .result) (c .before .before .before .before .before .loop .sum))) (c .before .before .before .before .before .loop .at + 1)
+    (due (seconds (about (c .before .before .before .before .before .before .before .before .args .m) cls (c .before .before .before .before .before .loop .inv .3 .value)) (c .before .before .before .before .before .loop .left - 1) (c .wide .result) (c .before .before .before .before .before .loop .sum))) (c .before .before .before .before .before .loop .at + 1)
 to-seconds c cls =
     let l = c .before .before .before .before .before .loop in
-    let g = l .inv .4 in
+    let g = l .inv .3 in
     let s = c .before .before .before .before .before .before .before .before in
     let t = s .args .t .now in
     let m = s .args .m in
@@ -57,9 +57,9 @@ loop-holds c =
       e,
       omega (arith, e, combinations-fit (s .args .m) (s .pre .0)),
       omega arith,
-      refl,
       record {
         inside = s .pre .1;
+        long = combinations-fit (s .args .m) (s .pre .0);
         value = λ j. 0;
         told = λ j l. same-entry (s .args .m) 0 j (s .pre .0) l;
         leads = λ cls. at-start (s .args .t .now) (held-of (about (s .args .m) cls (λ j. 0)) (s .args .n) 0 0) (s .args .start);
@@ -72,7 +72,7 @@ stands-requires c κs = search needs
 returns : tie.Need-returns Inv-loop μ-loop
 returns c =
     let l = c .before .before .before .loop in
-    let g = l .inv .4 in
+    let g = l .inv .3 in
     let s = c .before .before .before .before .before .before in
     bad refl
     (λ cls.
@@ -99,7 +99,7 @@ returns-2 c =
     bad refl
     (λ cls.
     then-run (to-seconds (c .before) cls)
-    (early-at (s .args .t .now) (seconds (about (s .args .m) cls (l .inv .4 .value)) (l .left - 1) (c .before .wide .result) (l .sum)) (l .at + 1)
+    (early-at (s .args .t .now) (seconds (about (s .args .m) cls (l .inv .3 .value)) (l .left - 1) (c .before .wide .result) (l .sum)) (l .at + 1)
     (omega (arith, standing (c .before .before .before) .inside)) (omega arith)))
 
 number-at-requires : tie.Need-number-at-requires Inv-loop μ-loop
@@ -116,7 +116,7 @@ returns-3 c =
     bad refl
     (λ cls.
     then-run (to-seconds (c .before .before .before .before) cls)
-    (seconds-stop (s .args .t .now) (about (s .args .m) cls (l .inv .4 .value)) (l .left - 1) (c .before .before .before .before .wide .result) (l .sum) (l .at + 1) (q .result)
+    (seconds-stop (s .args .t .now) (about (s .args .m) cls (l .inv .3 .value)) (l .left - 1) (c .before .before .before .before .wide .result) (l .sum) (l .at + 1) (q .result)
     (omega (arith, standing (c .before .before .before .before .before .before) .inside)) (q .ensures .0) (denied (c .before .may-add .ensures) (not-true _ (c .if3 .taken)))))
 
 cast-own : tie.Need-cast-own Inv-loop μ-loop
@@ -146,7 +146,7 @@ loop-less c = omega arith
 loop-again : tie.Need-loop-again Inv-loop μ-loop
 loop-again c =
     let l = c .before .before .before .before .before .before .before .before .before .loop in
-    let g = l .inv .4 in
+    let g = l .inv .3 in
     let s = c .before .before .before .before .before .before .before .before .before .before .before .before in
     let t = s .args .t .now in
     let m = s .args .m in
@@ -158,12 +158,12 @@ loop-again c =
       l .inv .0,
       l .inv .1,
       added c .1,
-      length-set (l .own) k (q .result) ∙ l .inv .3,
       record {
+        long = omega (arith, length-set (l .own) k (q .result), g .long);
         inside = fits;
         value = put k (q .result) f;
         told =
-            told-set (2 ^ m) (l .own) k (q .result) f (put k (q .result) f) (omega (arith, l .inv .3, st .below, c .before .before .before .before .wide .ensures .0)) (put-here k (q .result) f)
+            told-set (2 ^ m) (l .own) k (q .result) f (put k (q .result) f) (omega (arith, g .long, l .inv .0, st .below, c .before .before .before .before .wide .ensures .0)) (put-here k (q .result) f)
             (put-other k (q .result) f) (g .told);
         leads = λ cls.
             then (to-seconds (c .before .before .before .before) cls)
@@ -174,11 +174,12 @@ loop-again c =
 returns-4 : tie.Need-returns-4 Inv-loop μ-loop
 returns-4 c =
     let l = c .before .loop in
-    let g = l .inv .4 in
+    let g = l .inv .3 in
     let s = c .before .before .before .before in
     good refl
     (record {
       inside = g .inside;
+      long = g .long;
       value = g .value;
       told = g .told;
       leads = λ cls.

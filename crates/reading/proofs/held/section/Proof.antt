@@ -1,8 +1,6 @@
 -- A count, and what it counts.
-use Prim.Native.Nat.{ℕ, _^_, _≤_}
-use mathlib.Core.Bool.{false}
+use Prim.Native.Nat.{ℕ, _^_}
 use mathlib.Core.Path.{refl, subst}
-use lib.ListN.{length}
 use borrow.Author.Tests.{not-true, not-false}
 use borrow.Author.Needs.{needs}
 use Rattle.reading.proofs.Sections.{section-after}
