@@ -2,8 +2,8 @@
 ghost use Prim.Native.Nat.{_≤_};
 ghost use lib.ListN.{length};
 ghost use Rattle.reading.specs.Parts.{ClassRead, ClassListRead};
-use crate::fields;
 use crate::Section;
+use crate::fields;
 
 // n combinations from an offset on; what a combination has of its own is its outside count.
 fn list(t: &[u8], start: usize, m: usize, n: usize) -> Section

@@ -54,11 +54,7 @@ pub fn read_count(t: &[u8], at: usize, size: usize) -> Count
     }
     let n = number_at(t, at, 2);
     if size < n {
-        return Count {
-            good: false,
-            at,
-            n,
-        };
+        return Count { good: false, at, n };
     }
     Count {
         good: true,

@@ -4,8 +4,8 @@ ghost use lib.ListN.{length};
 ghost use Rattle.boxes.specs.Decides.{Decides};
 ghost use Rattle.sheet.specs.Limits.{mostHeld};
 ghost use Rattle.reading.specs.Parts.{HeldRead, HeldListRead};
-use crate::fields;
 use crate::Section;
+use crate::fields;
 use sheet::Sheet;
 
 // Whether seconds may follow a sum. It is judged before they are added, so no sum wraps.

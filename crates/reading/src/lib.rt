@@ -4,8 +4,8 @@ ghost use Rattle.sheet.specs.Limits.{mostMarks, entries, marksOk};
 ghost use Rattle.stored.specs.Answers.{readOf, Reads};
 ghost use Rattle.stored.specs.Fields.{refused as refusal};
 
-mod fields;
 mod class;
+mod fields;
 mod held;
 
 use sheet::Sheet;

@@ -114,9 +114,11 @@ afresh-requires c κs =
     let m = c .before .before .before .before .before .before .before .before .before .before .before .before .before .wide .result in
     let few = marks-most 5 m (m-ok (c .before .before .before .before .before .before .before .before .before .before .before)) in
     let g = past-class (c .before .before .before .before .before .before .before .before) in
-    let h = past-held (c .before .before .before .before .before) in
-    (few, outs-addable m (c .before .before .before .before .before .before .before .before .before .before .section .result .own) (g .value) few (g .long) (g .told),
-    times-addable m (c .before .before .before .before .before .before .before .section2 .result .own) (g .value) (h .value) (c .before .before .before .before .before .before .before .before .before .before .before .before .before .before .before .before .before .args .bytes .now) (h .long) (h .told) (bytes-known (c .before .before .before .before .before .before .before .before .before .before .before .before .before .before)) (whole (c .before .before .before .before)))
+    let h = past-held (c .before .before .before .before .before) in (
+      few,
+      outs-addable m (c .before .before .before .before .before .before .before .before .before .before .section .result .own) (g .value) few (g .long) (g .told),
+      times-addable m (c .before .before .before .before .before .before .before .section2 .result .own) (g .value) (h .value) (c .before .before .before .before .before .before .before .before .before .before .before .before .before .before .before .before .before .args .bytes .now) (h .long) (h .told) (bytes-known (c .before .before .before .before .before .before .before .before .before .before .before .before .before .before)) (whole (c .before .before .before .before)),
+    )
 
 returns-6 : tie.Need-returns-6
 returns-6 c =

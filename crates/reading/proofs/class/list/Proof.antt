@@ -124,7 +124,7 @@ returns-2 c =
       told = g .told;
       leads = λ ts.
           subst (λ (u : Next). Leads (s .args .t .now) (class-of (about (s .args .m) (λ i. false) ts) (s .args .n) 0) (s .args .start) u (l .at))
-    (class-end (about (s .args .m) (g .value) ts) (l .left) (l .low) (omega arith)) (g .leads ts);
+          (class-end (about (s .args .m) (g .value) ts) (l .left) (l .low) (omega arith)) (g .leads ts);
     })
 
 pub list-spec : {M : Type 1} → statement M

@@ -47,8 +47,7 @@ loop-less c = omega arith
 loop-again : tie.Need-loop-again Inv-loop μ-loop
 loop-again c =
     let l = c .before .before .before .loop in
-    let s = c .before .before .before .before .before in
-    (
+    let s = c .before .before .before .before .before in (
       omega arith,
       number-grows (s .args .t .now) (s .args .at) (s .args .k) (l .i) (l .n) (c .wide .result) (omega arith) (omega arith) (l .inv .1) (c .wide .ensures .0),
       number-fits (l .n) (l .i) (c .wide .result) (l .inv .2) (c .wide .ensures .1),

@@ -184,7 +184,7 @@ returns-4 c =
       told = g .told;
       leads = λ cls.
           subst (λ (u : Next). Leads (s .args .t .now) (held-of (about (s .args .m) cls (λ j. 0)) (s .args .n) 0 0) (s .args .start) u (l .at))
-    (held-end (about (s .args .m) cls (g .value)) (l .left) (l .low) (l .sum) (omega arith)) (g .leads cls);
+          (held-end (about (s .args .m) cls (g .value)) (l .left) (l .low) (l .sum) (omega arith)) (g .leads cls);
     })
 
 pub list-spec : {M : Type 1} → statement M
