@@ -18,7 +18,8 @@ pub fn number_at(t: &[u8], at: usize, k: usize) -> usize
 {
     let mut n: usize = 0;
     for i in 0..k {
-        n = n * 256 + wide(t[at + (k - 1 - i)]);
+        let j = k - 1 - i;
+        n = n * 256 + wide(t[at + j]);
     }
     n
 }

@@ -1,6 +1,7 @@
 pub mod UpTo
 pub mod Runs
 pub mod Refusals
+pub mod Settled
 pub mod Numbers
 pub mod Listed
 pub mod Taken

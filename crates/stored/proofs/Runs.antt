@@ -1,13 +1,11 @@
--- A run has one outcome, so what a reader may answer is settled. A run that is good took every field.
+-- A run has one outcome. A run that is good took every field.
 use Prim.Native.Nat.{ℕ, _+_, _≤_}
-use mathlib.Core.Path.{_≡_, refl, sym, ap, _∙_, subst}
+use mathlib.Core.Path.{_≡_, refl, sym, ap, subst}
 use mathlib.Core.Bool.{Bool, true, false, cond}
 use mathlib.Core.List.{List, []}
 use native.Mathlib.Omega.{arith}
 use lib.ListN.{length, take, drop}
 use Rattle.sheet.specs.Record.{Record}
-use Rattle.stored.specs.declared.Read.{Read}
-use Rattle.stored.specs.Answers.{Reads, readOf}
 use Rattle.stored.specs.Fields.{number, Due, width, Next, due, end, wrong, judge, Outcome, good, refused, Run, done, over, early, faulty, field}
 
 -- nothing goes on behind a field that was wrong
@@ -36,9 +34,6 @@ one (faulty h q) (field k r) = absurd (stuck q r)
 one (field h r) (early k) = absurd (omega arith)
 one (field h r) (faulty k q) = absurd (stuck q r)
 one (field h r) (field k s) = one r s
-
-pub settled : {most n : ℕ} {t : List ℕ} {a b : Read} → Reads most n t a → Reads most n t b → a ≡ b
-settled {n = n} x y = x .is ∙ ap (readOf n) (one (x .run) (y .run)) ∙ sym (y .is)
 
 -- a good run took the field that is due
 pub took : {most : ℕ} {d : Due} {at : ℕ} {l : List ℕ} {r : Record} → Run most (due d) at l (good r)

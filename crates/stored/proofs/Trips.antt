@@ -1,4 +1,4 @@
--- Both ways: a sound sheet that is written and read, and bytes that are read and written; what is read is sound; no two answers of a call.
+-- Both ways: a sound sheet that is written and read, and bytes that are read and written; what is read is sound.
 use Prim.Native.Nat.{ℕ, suc, _+_, _*_, _^_, _≤_, _<_}
 use mathlib.Core.Path.{_≡_, refl, sym, ap, ap₂, _∙_, subst}
 use mathlib.Core.Bool.{Bool, true, false}
@@ -151,19 +151,6 @@ module _ (most n : ℕ) (long : 3 ^ most ≤ n) where
       let r = g .0 in
       let w = taken t b (g .1) in
       ap (λ (y : Read). form (recordOf (y .sheet))) (g .2) ∙ form-same (told-alike r (w .storable .marks)) ∙ sym (w .bytes)
-
--- what the calls do
-
-pub writes-settled : {most : ℕ} {s : Sheet} {out later later′ : List ℕ} {v w : Value} → Writes most s out v later → Writes most s out w later′ → (v ≡ w) × (later ≡ later′)
-writes-settled (spoiled h) (spoiled k) = (refl, refl)
-writes-settled (spoiled h) (short f l) = absurd (h f)
-writes-settled (spoiled h) (written f l) = absurd (h f)
-writes-settled (short f l) (spoiled k) = absurd (k f)
-writes-settled (short f l) (short g k) = (refl, refl)
-writes-settled (short f l) (written g k) = absurd (omega arith)
-writes-settled (written f l) (spoiled k) = absurd (k f)
-writes-settled (written f l) (short g k) = absurd (omega arith)
-writes-settled (written f l) (written g k) = (refl, refl)
 
 -- done: the sheet is sound, and its form stands up to the value
 pub writes-done : {most : ℕ} {s : Sheet} {out later : List ℕ} {v : Value} → Writes most s out v later → v .number ≡ 0 → Fit most s × (take (v .value) later ≡ form (recordOf s))

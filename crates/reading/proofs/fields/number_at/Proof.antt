@@ -17,14 +17,14 @@ abbrev μ-loop : tie.MeasureT-loop
 loop-holds : tie.Need-loop-holds Inv-loop μ-loop
 loop-holds c = (omega arith, number-none (c .before .args .t .now) (c .before .args .at + (c .before .args .k - 0)), omega arith)
 
+sub-j : tie.Need-sub-j Inv-loop μ-loop
+sub-j c = omega arith
+
+sub-j-2 : tie.Need-sub-j-2 Inv-loop μ-loop
+sub-j-2 c = omega arith
+
 mul-n : tie.Need-mul-n Inv-loop μ-loop
 mul-n c = let l = c .before .loop in omega (arith, number-small (l .n) (l .i) (l .inv .2) (omega arith))
-
-sub-wide : tie.Need-sub-wide Inv-loop μ-loop
-sub-wide c = omega arith
-
-sub-wide-2 : tie.Need-sub-wide-2 Inv-loop μ-loop
-sub-wide-2 c = omega arith
 
 add-wide : tie.Need-add-wide Inv-loop μ-loop
 add-wide c = omega arith
@@ -67,9 +67,9 @@ number-at-spec =
     Inv-loop
     μ-loop
     loop-holds
+    sub-j
+    sub-j-2
     mul-n
-    sub-wide
-    sub-wide-2
     add-wide
     shared-slice-read-wide
     wide-requires
