@@ -116,7 +116,7 @@ module _ (most n : ℕ) (long : 3 ^ most ≤ n) where
       by (refused k p) y = sound (opened 1) (record { marks = rw (le-leb 1 most h); most-held = omega (arith, sum-zero (2 ^ 1)) })
 
   -- what is read as a record, or refused
-  read-good : {t : List ℕ} {a : Read} → Reads most n t a → a .number ≡ 0 → (r : Record) × Reading most t (good r) × (a ≡ readOf n (good r))
+  pub read-good : {t : List ℕ} {a : Read} → Reads most n t a → a .number ≡ 0 → (r : Record) × Reading most t (good r) × (a ≡ readOf n (good r))
   read-good {t} {a} x e = by (x .outcome) (x .run) (x .is)
     where
       by : (o : Outcome) → Reading most t o → a ≡ readOf n o → (r : Record) × Reading most t (good r) × (a ≡ readOf n (good r))
