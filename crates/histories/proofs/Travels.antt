@@ -1,20 +1,19 @@
 -- A journey gives back the very sheet, by the round trip of the stored form; so a history may have any number of them.
-use Prim.Native.Nat.{ℕ, _^_, _<_, _≤_}
+use Prim.Native.Nat.{ℕ, _^_, _≤_}
 use mathlib.Core.Path.{_≡_, refl, sym, _∙_, ap, ap₂, subst}
-use mathlib.Core.Bool.{Bool, true, false, cond}
-use mathlib.Core.List.{List, [], _∷_}
+use mathlib.Core.Bool.{Bool, cond}
+use mathlib.Core.List.{List, _∷_}
 use native.Mathlib.Omega.{arith}
-use lib.Dec.{ltb}
-use lib.ListN.{length, take}
+use lib.ListN.{length}
 use borrow.Author.Tests.{lt-ltb, le-ltb}
-use Rattle.boxes.proofs.Cases.{if, clash, below-or}
-use Rattle.sheet.specs.Limits.{mostMarks, entries, marksOk}
+use Rattle.boxes.proofs.Cases.{clash, below-or}
+use Rattle.sheet.specs.Limits.{mostMarks, entries}
 use Rattle.sheet.specs.Record.{Record, sheetOf}
 use Rattle.sheet.specs.Sound.{recordOf}
 use Rattle.sheet.specs.declared.Sheet.{Sheet}
 use Rattle.sheet.specs.declared.Answer.{Answer}
 use Rattle.sheet.specs.declared.Value.{Value}
-use Rattle.stored.specs.Answers.{readOf, Reads, Writes, spoiled, short, written}
+use Rattle.stored.specs.Answers.{Reads, Writes, spoiled, short, written}
 use Rattle.stored.specs.Fields.{good, Reading}
 use Rattle.stored.specs.Form.{form}
 use Rattle.stored.specs.declared.Read.{Read}
@@ -27,14 +26,14 @@ use Rattle.histories.proofs.Kept.{did-kept}
 use Rattle.histories.proofs.Goods.{good-after}
 use Rattle.histories.proofs.Afresh.{ready-afresh}
 
-five : 3 ^ 5 ≤ 243
+pub five : 3 ^ 5 ≤ 243
 five = omega arith
 
 -- the form that is written is the record's
-form-kept : (r : Record) → Good r → form (recordOf (sheetOf entries r)) ≡ form r
+pub form-kept : (r : Record) → Good r → form (recordOf (sheetOf entries r)) ≡ form r
 form-kept r g = form-same (told-alike 5 243 five r (g .marks))
 
-written-number : (r : Record) → Good r → {out later : List ℕ} {v : Value} → Writes mostMarks (sheetOf entries r) out v later
+pub written-number : (r : Record) → Good r → {out later : List ℕ} {v : Value} → Writes mostMarks (sheetOf entries r) out v later
     → v .number ≡ eventNumber r (travel out)
 written-number r g (spoiled h) = absurd (h (ready-afresh r g))
 written-number r g {out} (short f l) =

@@ -26,7 +26,7 @@ pub data Happens (s : Sheet) : Event → ℕ → Sheet → Type 0 where
   changed : (k : Call) → Happens s (change k) (didOf s k .number) (didOf s k .sheet)
   stayed : {out later : List ℕ} {v : Value} → Writes mostMarks s out v later → (v .number ≡ 0 → ⊥) → Happens s (travel out) (v .number) s
   travelled : {out later : List ℕ} {v : Value} {a : Read} → Writes mostMarks s out v later → v .number ≡ 0
-    → Reads mostMarks entries (take (v .value) later) a → Happens s (travel out) (a .number) (a .sheet)
+      → Reads mostMarks entries (take (v .value) later) a → Happens s (travel out) (a .number) (a .sheet)
 
 -- a sequence of events, with the numbers given
 pub data Lives : Sheet → List Event → List ℕ → Sheet → Type 0 where

@@ -2,14 +2,12 @@
 use Prim.Native.Nat.{ℕ}
 use mathlib.Core.Path.{_≡_, refl, sym, _∙_, ap, subst}
 use mathlib.Core.List.{List}
-use Rattle.lists.specs.Lists.{Before}
-use Rattle.sheet.specs.Limits.{mostMarks, entries}
+use Rattle.sheet.specs.Limits.{mostMarks}
 use Rattle.sheet.specs.Calls.{ClassSize}
 use Rattle.sheet.specs.declared.Sheet.{Sheet}
 use Rattle.sheet.specs.declared.Answer.{Answer}
 use Rattle.sheet.specs.declared.Value.{Value}
 use Rattle.sheet.proofs.Settled.{size-settled}
-use Rattle.stored.specs.Answers.{Reads, Writes}
 use Rattle.stored.specs.declared.Read.{Read}
 use Rattle.stored.proofs.Settled.{reads-settled, writes-settled}
 use Rattle.listing.specs.Listing.{Listed, Totalled}
