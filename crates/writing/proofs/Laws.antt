@@ -1,7 +1,7 @@
 -- Bytes and listed combinations, one at a time, as the loops put them; the form from its five pieces.
 use Prim.Native.Nat.{ℕ, zero, suc, _+_, _-_, _/_, _%_, _^_, _≤_, _<_}
-use mathlib.Core.Path.{_≡_, sym, ap, ap₂, _∙_, subst}
-use mathlib.Core.Bool.{Bool, cond, _&&_}
+use mathlib.Core.Path.{_≡_, refl, sym, ap, ap₂, _∙_, subst}
+use mathlib.Core.Bool.{Bool, true, false, cond, _&&_}
 use mathlib.Core.List.{List, [], _∷_, _++_, append-assoc}
 use native.Mathlib.Nat.{sub-zero, zero-add}
 use native.Mathlib.Numerals.{add-one}
@@ -11,17 +11,19 @@ use lib.Seq.{drop-cons, take-all, length-take-le}
 use lib.Dec.{eqb}
 use borrow.Author.Tests.{lt-ltb}
 use Rattle.boxes.specs.Boxes.{single}
-use Rattle.boxes.specs.Sums.{sum}
+use Rattle.boxes.specs.Sums.{sum, only}
 use Rattle.boxes.proofs.Cases.{below-or}
+use Rattle.boxes.proofs.Sums.{sum-ext}
 use Rattle.tables.specs.Tables.{entry, own}
 use Rattle.sheet.specs.Sound.{classOf, sizeOf, recordOf}
 use Rattle.sheet.specs.declared.Sheet.{Sheet}
-use Rattle.stored.specs.Form.{bytes, listed, alone, isHeld, withSeconds, form}
+use Rattle.stored.specs.Form.{bytes, listed, alone, form}
 use Rattle.stored.specs.Answers.{Fit, Writes, written}
 use Rattle.stored.proofs.Numbers.{bytes-length}
+use Rattle.stored.proofs.Listed.{listed-ext}
 use Rattle.print.specs.Areas.{laid, Wrote}
 use Rattle.print.proofs.Areas.{wrote-then, wrote-text, wrote-length, wrote-none}
-use Rattle.writing.specs.Tables.{told}
+use Rattle.writing.specs.Sections.{stands, text, listOf, countOf, told}
 
 same-head : {x y : ℕ} {a b : List ℕ} → (x ∷ a) ≡ (y ∷ b) → x ≡ y
 same-head e = cc
@@ -105,29 +107,43 @@ module _ {p : ℕ → Bool} {f : ℕ → List ℕ} {n : ℕ} {xs : List ℕ} {at
     pub listing-more : {out₁ : List ℕ} {next₁ : ℕ} → Wrote out next (cond b x []) next₁ out₁ → Listing p f n xs at out₁ next₁ (c + 1)
     listing-more w = record { room = v .room; put = wrote-text (sym (listed-step p f c b x takes writes)) (wrote-then (v .put) w fits) }
 
--- what the tables have of a combination
-module _ (m : ℕ) (t : List ℕ) (c b x : ℕ) (single-box : b ≡ single m c) (is : x ≡ entry t b) where
-  pub own-read : own m t c ≡ x
-  own-read = ap (entry t) (sym single-box) ∙ sym is
-
-  pub class-read : c < 2 ^ m → classOf m t c ≡ eqb x 0
-  class-read l = ap (λ (e : Bool). e && eqb (own m t c) 0) (lt-ltb c (2 ^ m) l) ∙ ap (λ (y : ℕ). eqb y 0) own-read
+-- what the table has of a combination
+pub own-read : (m : ℕ) (t : List ℕ) (c b x : ℕ) → b ≡ single m c → x ≡ entry t b → own m t c ≡ x
+own-read m t c b x e is = ap (entry t) (sym e) ∙ sym is
 
 pub sum-step : (f : ℕ → ℕ) (c x : ℕ) → f c ≡ x → sum c f + x ≡ sum (c + 1) f
 unfolding sum
 sum-step f c x e = sym (ap (λ (j : ℕ). sum j f) (add-one c) ∙ ap (λ (y : ℕ). sum c f + y) e)
 
--- the form from its five pieces
-module _ (m a b : ℕ) (outside held : List ℕ) (ea : a ≡ sizeOf m (classOf m outside)) (eb : b ≡ sizeOf m (isHeld (own m held))) where
-  unfoldable pub class-part : List ℕ
-  class-part = listed (classOf m outside) alone (2 ^ m)
+-- an entry of a section
+module _ (held : Bool) (c x : ℕ) where
+  pub entry-none : stands held x ≡ false → cond (stands held x) (text held c x) [] ≡ []
+  entry-none e = ap (λ (b : Bool). cond b (text held c x) []) e
 
-  unfoldable pub held-part : List ℕ
-  held-part = listed (isHeld (own m held)) (withSeconds (own m held)) (2 ^ m)
+  pub entry-some : stands held x ≡ true → (b : Bool) → held ≡ b → cond (stands held x) (text held c x) [] ≡ c ∷ cond b (bytes 4 x) []
+  entry-some e b q = ap (λ (z : Bool). cond z (text held c x) []) e ∙ ap (λ (z : Bool). text z c x) q
+
+-- the class as the counts tell it is the class section's
+class-stands : (m : ℕ) (t : List ℕ) (c : ℕ) → c < 2 ^ m → stands false (own m t c) ≡ classOf m t c
+class-stands m t c l = ap (λ (e : Bool). e && eqb (own m t c) 0) (sym (lt-ltb c (2 ^ m) l))
+
+pub class-list : (m : ℕ) (t : List ℕ) → listOf false m t ≡ listed (classOf m t) alone (2 ^ m)
+class-list m t = listed-ext (λ c. stands false (own m t c)) (classOf m t) alone alone (2 ^ m) (class-stands m t) (λ c l. refl)
+
+pub class-count : (m : ℕ) (t : List ℕ) → countOf false m t ≡ sizeOf m (classOf m t)
+class-count m t = sum-ext (2 ^ m) _ _ (λ c l. ap (λ (e : Bool). only e 1) (class-stands m t c l))
+
+-- the form from its five pieces
+module _ (m a b : ℕ) (outside held : List ℕ) (ea : a ≡ countOf false m outside) (eb : b ≡ countOf true m held) where
+  abbrev pub class-part : List ℕ
+  class-part = listOf false m outside
+
+  abbrev pub held-part : List ℕ
+  held-part = listOf true m held
 
   pieces : ((((m ∷ []) ++ bytes 2 a) ++ class-part) ++ bytes 2 b) ++ held-part ≡ form (told m outside held)
-  unfolding form class-part held-part
-  pieces = rw (← ea, ← eb) (simp append-assoc)
+  unfolding form
+  pieces = rw (← class-list m outside, ← class-count m outside, ← ea, ← eb) (simp append-assoc)
 
   pub form-long : length (form (told m outside held)) ≡ 5 + length class-part + length held-part
   form-long =

@@ -1,22 +1,20 @@
 -- The combinations below c are put.
-use Prim.Native.Nat.{ℕ, _-_, _^_, _≤_}
-use mathlib.Core.List.{_∷_}
+use Prim.Native.Nat.{_-_, _^_, _≤_}
 use mathlib.Core.Path.{_≡_, ap}
 use native.Mathlib.Omega.{arith}
 use native.Mathlib.Nat.{pow-le-pow-right}
-use lib.Dec.{ltb}
 use borrow.Author.Needs.{needs}
 use Rattle.writing.proofs.Laws.{Listing, listing-none, listing-long, listing-room, listing-more, listing-done, own-read}
-use Rattle.stored.specs.Form.{bytes, isHeld, withSeconds}
+use Rattle.writing.specs.Sections.{stands, text}
 use Rattle.tables.specs.Tables.{own}
-use Rattle.writing.proofs.put_held_list.Statement.{statement}
-use Rattle.writing.proofs.put_held_list.Tie as tie
+use Rattle.writing.proofs.put_list.Statement.{statement}
+use Rattle.writing.proofs.put_list.Tie as tie
 
 abbrev Inv-loop : tie.InvT-loop
-Inv-loop out₀ at m t n next₀ c₀ out next c = (c ≤ n) × (n ≡ 2 ^ m) × (n ≤ 32) × Listing (isHeld (own m t)) (withSeconds (own m t)) (2 ^ m) out₀ at out next c
+Inv-loop out₀ at m t held n next₀ c₀ out next c = (c ≤ n) × (n ≡ 2 ^ m) × (n ≤ 32) × Listing (λ j. stands held (own m t j)) (λ j. text held j (own m t j)) (2 ^ m) out₀ at out next c
 
 abbrev μ-loop : tie.MeasureT-loop
-μ-loop out₀ at m t n next₀ c₀ out next c = n - c
+μ-loop out₀ at m t held n next₀ c₀ out next c = n - c
 
 power2-requires : tie.Need-power2-requires Inv-loop μ-loop
 power2-requires c κs = omega arith
@@ -29,7 +27,7 @@ loop-holds c =
       omega arith,
       c .power2 .ensures .0,
       omega (arith, c .power2 .ensures .0, pow-le-pow-right {n = 2} (omega arith) {i = m} {j = 5} (s .pre .0)),
-      listing-none (isHeld (own m t)) (withSeconds (own m t)) (2 ^ m) (s .args .out .now) (s .args .at) (s .pre .2),
+      listing-none (λ j. stands (s .args .held) (own m t j)) (λ j. text (s .args .held) j (own m t j)) (2 ^ m) (s .args .out .now) (s .args .at) (s .pre .2),
     )
 
 single-requires : tie.Need-single-requires Inv-loop μ-loop
@@ -44,17 +42,15 @@ shared-slice-read-wide c = let s = c .before .before .before .before .before .be
 wide-requires : tie.Need-wide-requires Inv-loop μ-loop
 wide-requires c κs = search needs
 
-put-held-requires : tie.Need-put-held-requires Inv-loop μ-loop
-put-held-requires c κs =
+put-entry-requires : tie.Need-put-entry-requires Inv-loop μ-loop
+put-entry-requires c κs =
     let l = c .before .before .before .before .before .loop in
-    let s = c .before .before .before .before .before .before .before .before .before in
-    let m = s .args .m in
-    let t = s .args .t .now in
+    let s = c .before .before .before .before .before .before .before .before .before .args in
     let k = l .c in
     let z = c .before .before .before .single in
-    let w = c .wide .result in
-    let e = own-read m t k (z .result) w (z .ensures .0) (c .wide .ensures .0) in
-    (omega (arith, l .inv .2), listing-room (l .inv .3) (ltb 0 w) (k ∷ bytes 4 w) (ap (ltb 0) e) (ap (λ (y : ℕ). k ∷ bytes 4 y) e) (omega (arith, l .inv .1)))
+    let w = c .wide in
+    let e = own-read (s .m) (s .t .now) k (z .result) (w .result) (z .ensures .0) (w .ensures .0) in
+    (omega (arith, l .inv .2), listing-room (l .inv .3) (stands (s .held) (w .result)) (text (s .held) k (w .result)) (ap (stands (s .held)) e) (ap (text (s .held) k) e) (omega (arith, l .inv .1)))
 
 add-c : tie.Need-add-c Inv-loop μ-loop
 add-c c = omega arith
@@ -65,14 +61,12 @@ loop-less c = omega arith
 loop-again : tie.Need-loop-again Inv-loop μ-loop
 loop-again c =
     let l = c .before .before .before .before .before .before .before .before .loop in
-    let s = c .before .before .before .before .before .before .before .before .before .before .before .before in
-    let m = s .args .m in
-    let t = s .args .t .now in
+    let s = c .before .before .before .before .before .before .before .before .before .before .before .before .args in
     let k = l .c in
     let z = c .before .before .before .before .before .before .single in
-    let w = c .before .before .before .wide .result in
-    let e = own-read m t k (z .result) w (z .ensures .0) (c .before .before .before .wide .ensures .0) in
-    (omega arith, l .inv .1, l .inv .2, listing-more (l .inv .3) (ltb 0 w) (k ∷ bytes 4 w) (ap (ltb 0) e) (ap (λ (y : ℕ). k ∷ bytes 4 y) e) (omega (arith, l .inv .1)) (c .before .before .put-held .ensures))
+    let w = c .before .before .before .wide in
+    let e = own-read (s .m) (s .t .now) k (z .result) (w .result) (z .ensures .0) (w .ensures .0) in
+    (omega arith, l .inv .1, l .inv .2, listing-more (l .inv .3) (stands (s .held) (w .result)) (text (s .held) k (w .result)) (ap (stands (s .held)) e) (ap (text (s .held) k) e) (omega (arith, l .inv .1)) (c .before .before .put-entry .ensures))
 
 same-length : tie.Need-same-length Inv-loop μ-loop
 same-length c = let l = c .before .loop in listing-long (l .inv .3) (omega (arith, l .inv .1))
@@ -80,8 +74,8 @@ same-length c = let l = c .before .loop in listing-long (l .inv .3) (omega (arit
 returns : tie.Need-returns Inv-loop μ-loop
 returns c = let l = c .before .loop in listing-done (l .inv .3) (omega (arith, l .inv .1))
 
-pub put-held-list-spec : {M : Type 1} → statement M
-put-held-list-spec =
+pub put-list-spec : {M : Type 1} → statement M
+put-list-spec =
     tie.close
     (tie.spec
     Inv-loop
@@ -92,7 +86,7 @@ put-held-list-spec =
     mul-wide
     shared-slice-read-wide
     wide-requires
-    put-held-requires
+    put-entry-requires
     add-c
     loop-less
     loop-again
