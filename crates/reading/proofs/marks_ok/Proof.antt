@@ -1,3 +1,4 @@
+-- The two tests of `marksOk`, in its order.
 use native.Mathlib.Omega.{arith}
 use borrow.Author.Tests.{le-leb, lt-leb}
 use Rattle.sheet.specs.Limits.{marksOk}

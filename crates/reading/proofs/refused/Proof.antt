@@ -1,3 +1,4 @@
+-- The opened one-mark sheet, with the number and the place.
 use mathlib.Core.Path.{ap}
 use borrow.Author.Needs.{needs}
 use Rattle.sheet.specs.declared.Sheet.{Sheet}

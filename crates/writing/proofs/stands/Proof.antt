@@ -1,3 +1,4 @@
+-- By the section.
 use mathlib.Core.Bool.{Bool}
 use mathlib.Core.Path.{sym, ap}
 use Rattle.writing.specs.Sections.{stands}

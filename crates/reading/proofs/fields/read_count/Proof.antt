@@ -1,3 +1,4 @@
+-- The three answers, each by its test.
 use mathlib.Core.Path.{refl}
 use native.Mathlib.Omega.{arith}
 use borrow.Author.Needs.{needs}

@@ -1,3 +1,4 @@
+-- One test after another, by what `wide` tells of the byte.
 use mathlib.Core.Path.{refl}
 use native.Mathlib.Omega.{arith}
 use borrow.Author.Needs.{needs}

@@ -1,3 +1,4 @@
+-- `Sheet::MOST_HELD` less the sum is what may still be added.
 use native.Mathlib.Omega.{arith}
 use borrow.Author.Needs.{needs}
 use Rattle.reading.proofs.Offsets.{sum-tested, sum-none}
