@@ -1,6 +1,6 @@
 // Reading a sheet's stored form: any bytes, of any length.
 ghost use mathlib.Core.Path.{_≡_};
-ghost use Rattle.sheet.specs.Limits.{mostMarks, entries, marksOk};
+ghost use Rattle.sheet.specs.Limits.{mostMarks, entries};
 ghost use Rattle.stored.specs.Answers.{readOf, Reads};
 ghost use Rattle.stored.specs.Fields.{refused as refusal};
 
@@ -28,12 +28,6 @@ fn refused(number: u64, place: usize) -> Read
     }
 }
 
-fn marks_ok(m: usize) -> bool
-    ensures { λ r. ⌜ r ≡ marksOk mostMarks m ⌝ }
-{
-    1 <= m && m <= Sheet::MOST_MARKS
-}
-
 pub fn read(bytes: &[u8]) -> Read
     ensures { λ r. ⌜ Reads mostMarks entries (now (bytes .entry)) r ⌝ }
 {
@@ -41,7 +35,7 @@ pub fn read(bytes: &[u8]) -> Read
         return refused(10, 0);
     }
     let m = fields::wide(bytes[0]);
-    if !marks_ok(m) {
+    if !sheet::numbers::marks_ok(m) {
         return refused(1, 0);
     }
     let first = class::section(bytes, 1, m);
