@@ -6,6 +6,7 @@
 #include <pthread.h>
 #include <stdio.h>
 #include <string.h>
+#include <unistd.h>
 
 static int checks, faults;
 
@@ -341,7 +342,7 @@ static void times(void)
     check(is(vault_read_time((const uint8_t *)"5:5\0", 4), VAULT_UNREADABLE, 3, 0), "a zero byte", 0);
 }
 
-/* Threads with the stack that the header names and what the C library wants for itself, each on its own areas. */
+/* Threads with the stack that the header names and some for the C library itself (or the least there is), each on its own areas. */
 static void *night(void *arg)
 {
     uint8_t form[2][VAULT_FORM_SIZE], list[VAULT_LIST_SIZE];
@@ -374,8 +375,9 @@ static void threads(void)
 {
     pthread_t t[4];
     pthread_attr_t small;
+    long stack = (64 + 16) * 1024, least = sysconf(_SC_THREAD_STACK_MIN);
     pthread_attr_init(&small);
-    check(pthread_attr_setstacksize(&small, (64 + 16) * 1024) == 0, "a small stack", 0);
+    check(pthread_attr_setstacksize(&small, (size_t)(least > stack ? least : stack)) == 0, "a small stack", 0);
     for (size_t i = 0; i < 4; i++)
         check(pthread_create(&t[i], &small, night, (void *)(i + 1)) == 0, "a thread", (long)i);
     for (size_t i = 0; i < 4; i++) {
