@@ -59,3 +59,6 @@ clean:
 	rm -rf build target
 
 .PHONY: all check test bench sanitize install clean
+
+# two runs of rt at once would be in each other's way
+.NOTPARALLEL:
