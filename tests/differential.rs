@@ -11,9 +11,8 @@ use model::{done, is_before, refused, Lists, Reply, Sheet, Times, MOST_AMOUNT, M
 use std::io::{Read, Write};
 use std::process::{Child, Command, Stdio};
 
-const NAMES: [&str; 13] = [
-    "open", "enter", "leave", "receive", "withdraw", "copy", "list", "class_size", "total", "outside", "held", "before", "read_time",
-];
+const NAMES: [&str; 13] =
+    ["open", "enter", "leave", "receive", "withdraw", "copy", "list", "class_size", "total", "outside", "held", "before", "read_time"];
 
 /// xorshift64*: the same calls for the same seed, everywhere.
 struct Random(u64);
@@ -385,6 +384,16 @@ fn taken(call: &Call, bytes: &mut &[u8]) -> Option<(Reply, Vec<Vec<u8>>)> {
     Some((reply, later?))
 }
 
+fn started(words: &[String]) -> Child {
+    Command::new(&words[0]).args(&words[1..]).stdin(Stdio::piped()).stdout(Stdio::piped()).spawn().expect("the program starts")
+}
+
+/// The call of a batch that ends the program.
+fn ending<'a>(words: &[String], batch: &'a [Call]) -> Option<&'a Call> {
+    let mut child = started(words);
+    batch.iter().find(|call| exchange(&mut child, std::slice::from_ref(*call)).is_err())
+}
+
 fn stop(why: &str) -> ! {
     println!("{why}");
     std::process::exit(1)
@@ -397,7 +406,7 @@ fn main() {
     }
     let calls: u64 = words[1].parse().expect("a number of calls");
     let seed: u64 = words[2].parse().expect("a seed");
-    let mut child = Command::new(&words[3]).args(&words[4..]).stdin(Stdio::piped()).stdout(Stdio::piped()).spawn().expect("the program starts");
+    let mut child = started(&words[3..]);
     let mut tests = Tests { r: Random(seed.wrapping_mul(2) + 1), lists: Lists::new(), times: Times::new(), pool: Vec::new() };
     for _ in 0..64 {
         let sheet = tests.sheet();
@@ -408,7 +417,7 @@ fn main() {
     while made < calls {
         let batch: Vec<Call> = (0..(calls - made).min(512)).map(|_| tests.call()).collect();
         let Ok(replies) = exchange(&mut child, &batch) else {
-            stop(&format!("the program ended after call {made}: {:?}; one of\n{batch:#?}", child.wait()));
+            stop(&format!("the program ended behind call {made}, {:?}, by\n{:x?}", child.wait(), ending(&words[3..], &batch)));
         };
         let mut rest = &replies[..];
         for call in &batch {

@@ -56,7 +56,11 @@ impl Fields<'_> {
     }
 
     fn fault_if(fault: bool, place: usize) -> Result<(), Reply> {
-        if fault { Err(unreadable(place)) } else { Ok(()) }
+        if fault {
+            Err(unreadable(place))
+        } else {
+            Ok(())
+        }
     }
 
     fn count(&mut self, most: u64) -> Result<u64, Reply> {
