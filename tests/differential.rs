@@ -1,5 +1,5 @@
-//! Compares the library with tests/model.rs: random calls of every entry go to a program that makes them (tests/driver.c), and its replies and all
-//! the bytes of the areas that were lent, with those around them, must be the model's.
+//! Compares the library with tests/model.rs: the list of every class of up to four marks, then random calls of every entry. They go to a program that
+//! makes them (tests/driver.c), and its replies and all the bytes of the areas that were lent, with those around them, must be the model's.
 //!
 //!     differential CALLS SEED PROGRAM WORD..
 //!
@@ -203,11 +203,9 @@ impl Tests {
         self.r.bytes(n)
     }
 
-    /// A call that writes, into an area for it.
-    fn writing(&mut self, entry: usize, numbers: [u64; 2], sheet: Option<Vec<u8>>, written: Written, needs: Option<usize>, value: u64) -> Call {
-        let needed = needs.unwrap_or(written.as_ref().map_or(60, Vec::len));
+    /// A call that writes into an area, the last that is lent, if that has as many bytes as are needed.
+    fn writing(&mut self, entry: usize, numbers: [u64; 2], sheet: Option<Vec<u8>>, written: Written, needed: usize, room: Vec<u8>) -> Call {
         let mut areas: Vec<Area> = sheet.into_iter().map(|s| Area::new(&mut self.r, s)).collect();
-        let room = self.room(needed);
         let out = Area::new(&mut self.r, room);
         let mut later: Vec<Vec<u8>> = areas.iter().map(Area::all).collect();
         let mut all = out.all();
@@ -216,7 +214,7 @@ impl Tests {
             Ok(_) if out.bytes.len() < needed => refused(5),
             Ok(written) => {
                 all[out.before.len()..][..written.len()].copy_from_slice(&written);
-                done(value)
+                done(written.len() as u64)
             }
         };
         later.push(all);
@@ -234,7 +232,8 @@ impl Tests {
     fn open(&mut self) -> Call {
         let marks = self.number(6);
         let written = Sheet::open(marks).map(|s| s.form());
-        self.writing(0, [marks, 0], None, written, None, 5)
+        let room = self.room(5);
+        self.writing(0, [marks, 0], None, written, 5, room)
     }
 
     /// One of the calls that change a sheet. What was accepted takes the old sheet's place among those that later calls are made on.
@@ -253,8 +252,9 @@ impl Tests {
             _ => Ok(()),
         });
         let written = changed.map(|()| sheet.form());
-        let value = written.as_ref().map_or(0, Vec::len) as u64;
-        let call = self.writing(entry, [c, seconds], Some(form), written, None, value);
+        let needed = written.as_ref().map_or(60, Vec::len);
+        let room = self.room(needed);
+        let call = self.writing(entry, [c, seconds], Some(form), written, needed, room);
         if call.reply.answer == 0 {
             let at = self.r.below(self.pool.len() as u64) as usize;
             self.pool[at] = sheet;
@@ -267,8 +267,15 @@ impl Tests {
         let read = Sheet::read(&form);
         let needed = read.as_ref().map_or(32, |s| s.size()) as usize;
         let written = read.map(|s| self.lists.first_shortest(&s));
-        let value = written.as_ref().map_or(0, Vec::len) as u64;
-        self.writing(6, [0, 0], Some(form), written, Some(needed), value)
+        let room = self.room(needed);
+        self.writing(6, [0, 0], Some(form), written, needed, room)
+    }
+
+    /// The list of a class, into an area of just the size for it.
+    fn list_of(&mut self, sheet: &Sheet) -> Call {
+        let written = self.lists.first_shortest(sheet);
+        let room = self.r.bytes(sheet.size());
+        self.writing(6, [0, 0], Some(sheet.form()), Ok(written), sheet.size() as usize, room)
     }
 
     fn told(&mut self, entry: usize) -> Call {
@@ -352,6 +359,16 @@ impl Tests {
     }
 }
 
+/// Every class of one to four marks.
+fn every_class() -> impl Iterator<Item = Sheet> {
+    let of = |marks: u64| (0u32..1 << (1 << marks)).map(move |class| (marks, class));
+    (1..=4).flat_map(of).map(|(marks, class)| {
+        let mut sheet = Sheet::open(marks).unwrap();
+        sheet.class.iter_mut().enumerate().for_each(|(c, standing)| *standing = class >> c & 1 == 1);
+        sheet
+    })
+}
+
 fn exchange(child: &mut Child, batch: &[Call]) -> std::io::Result<Vec<u8>> {
     let mut request = Vec::new();
     for call in batch {
@@ -414,8 +431,13 @@ fn main() {
     }
     let mut counts = [[0u64; 11]; 13];
     let mut made = 0;
-    while made < calls {
-        let batch: Vec<Call> = (0..(calls - made).min(512)).map(|_| tests.call()).collect();
+    let (mut classes, lists) = (every_class(), every_class().count() as u64);
+    while made < lists + calls {
+        let next = |_| match classes.next() {
+            Some(sheet) => tests.list_of(&sheet),
+            None => tests.call(),
+        };
+        let batch: Vec<Call> = (0..(lists + calls - made).min(512)).map(next).collect();
         let Ok(replies) = exchange(&mut child, &batch) else {
             stop(&format!("the program ended behind call {made}, {:?}, by\n{:x?}", child.wait(), ending(&words[3..], &batch)));
         };
@@ -440,5 +462,5 @@ fn main() {
         let given: Vec<String> = (0..11).filter(|&a| answers[a] > 0).map(|a| format!("{a}: {}", answers[a])).collect();
         println!("vault_{name:<11}{:>7} calls, by answer {}", answers.iter().sum::<u64>(), given.join(", "));
     }
-    println!("differential: {made} calls compared, no difference (seed {seed})");
+    println!("differential: {lists} lists, of every class of up to four marks, and {calls} random calls compared, no difference (seed {seed})");
 }
