@@ -67,6 +67,14 @@ sum-pairs (suc n) f =
     let e : suc n * 2 ≡ suc (suc (n * 2)) = omega arith in
     ap (λ (k : ℕ). sum k f) e ∙ (omega (arith, sum-pairs n f, ap f (add-one (n * 2))))
 
+-- the numbers below n, and k more
+pub sum-split : (n k : ℕ) (f : ℕ → ℕ) → sum (n + k) f ≡ sum n f + sum k (λ c. f (n + c))
+unfolding sum
+sum-split n zero f = let e : n + 0 ≡ n = omega arith in ap (λ (x : ℕ). sum x f) e ∙ omega arith
+sum-split n (suc k) f =
+    let e : n + suc k ≡ suc (n + k) = omega arith in
+    ap (λ (x : ℕ). sum x f) e ∙ omega (arith, sum-split n k f)
+
 -- exchange: what each member of a list gives to each number, added up either way
 pub sum-exchange : (n : ℕ) (l : List ℕ) (f : ℕ → ℕ → ℕ) → sumOver l (λ b. sum n (f b)) ≡ sum n (λ c. sumOver l (λ b. f b c))
 unfolding sumOver

@@ -2,18 +2,18 @@
 -- It is what adding d to c's own does to every sum, so that sums stay sums.
 use Prim.Native.Nat.{ℕ, _+_, _-_, _^_, _<_, _≤_}
 use mathlib.Core.Path.{_≡_, refl, sym, _∙_, ap}
-use mathlib.Core.Bool.{Bool, true, false, cond}
+use mathlib.Core.Bool.{Bool, true}
 use mathlib.Core.List.{List}
 use native.Mathlib.Omega.{arith}
 use lib.Dec.{eqb}
 use lib.ListN.{length}
-use borrow.Author.Tests.{eq-eqb, ne-eqb, eqb-true}
+use borrow.Author.Tests.{eq-eqb, ne-eqb}
 use Rattle.boxes.specs.Boxes.{contains, sumIn, single}
 use Rattle.boxes.specs.Sums.{only}
-use Rattle.boxes.proofs.Cases.{if, same-or, clash}
+use Rattle.boxes.proofs.Cases.{if}
 use Rattle.boxes.proofs.Boxes.{sumIn-change, contains-nothing}
 use Rattle.boxes.proofs.Choices.{through-lt, through-contains, single-contains}
-use Rattle.tables.specs.Tables.{entry, own, tab, afresh, raised, lowered, Sums, Differ}
+use Rattle.tables.specs.Tables.{entry, own, afresh, raised, lowered, Sums, Differ}
 use Rattle.tables.proofs.Entries.{tab-length, tab-entry, tab-of, afresh-entry}
 
 -- raising and lowering

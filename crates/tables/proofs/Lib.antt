@@ -1,6 +1,5 @@
 pub mod Entries
 pub mod Moves
 pub mod Touched
-pub mod Halves
-pub mod Afresh
+pub mod Thirds
 pub mod Changes

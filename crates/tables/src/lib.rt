@@ -8,7 +8,7 @@ ghost use lib.ListN.{length};
 ghost use Rattle.boxes.specs.Decides.{Decides};
 ghost use Rattle.boxes.specs.Boxes.{contains, sumIn, allFree};
 ghost use Rattle.tables.specs.Tables.{entry, own, afresh, raised, lowered, touched, inBounds, Sums};
-ghost use Rattle.tables.specs.Halving.{Halving};
+ghost use Rattle.tables.specs.Thirds.{from, Joined, SumsOf, sumOf, Made};
 use boxes;
 
 // d more in each box that contains the combination c.
@@ -66,16 +66,39 @@ pub fn between(m: usize, c: usize, t: &[u32], low: u64, high: u64, each: u64) ->
     true
 }
 
-// Whether the entry of the box b is the sum of those of its two halves, where b has a free mark.
-fn halved(m: usize, b: usize, t: &[u32]) -> bool
-    requires { ⌜ (m ≤ 8) × (b < 3 ^ m) × (3 ^ m ≤ length (now t)) ⌝ }
-    ensures { λ r. ⌜ Halving m b (entry (now (t .entry))) r ⌝ }
+// Whether, of the three times p entries from `at` on, each of the last p is the sum of those p and twice p before it: the boxes with the highest mark
+// free, off and on.
+fn is_joined(p: usize, t: &[u32], at: usize) -> bool
+    requires { ⌜ (p ≤ 6561) × (at ≤ 6561) × (at + p * 3 ≤ length (now t)) ⌝ }
+    ensures { λ r. ⌜ Decides r (Joined p (from at (entry (now (t .entry))))) ⌝ }
 {
-    let p = boxes::free_power(m, b);
-    if p == 0 {
+    for b in 0..p {
+        let off = at + b;
+        let on = off + p;
+        let free = on + p;
+        if wide(t[free]) != wide(t[off]) + wide(t[on]) {
+            return false;
+        }
+    }
+    true
+}
+
+// Whether each of the entries from `at` on, of the boxes over m marks, is the sum over its box.
+fn sums_at(m: usize, t: &[u32], at: usize) -> bool
+    requires { ⌜ (m ≤ 8) × (at + 3 ^ m ≤ length (now t)) × (at + 3 ^ m ≤ 6561) ⌝ }
+    ensures { λ r. ⌜ Decides r (SumsOf m (from at (entry (now (t .entry))))) ⌝ }
+{
+    if m == 0 {
         return true;
     }
-    wide(t[b]) == wide(t[b - p]) + wide(t[b - p * 2])
+    let p = boxes::power3(m - 1);
+    if !sums_at(m - 1, t, at) {
+        return false;
+    }
+    if !sums_at(m - 1, t, at + p) {
+        return false;
+    }
+    is_joined(p, t, at)
 }
 
 // Whether each entry is the sum over its box.
@@ -83,39 +106,48 @@ pub fn sums(m: usize, t: &[u32]) -> bool
     requires { ⌜ (m ≤ 8) × (3 ^ m ≤ length (now t)) ⌝ }
     ensures { λ r. ⌜ Decides r (Sums m (now (t .entry))) ⌝ }
 {
-    let n = boxes::power3(m);
-    for b in 0..n {
-        if !halved(m, b, t) {
-            return false;
-        }
-    }
-    true
+    sums_at(m, t, 0)
 }
 
-// What a table keeps of the box b, of n boxes: of a single combination its own, else the sum of the two halves, which stand in the table already.
-fn worked_out(m: usize, n: usize, b: usize, own: &[u32], t: &[u32]) -> u32
-    requires { ⌜ (m ≤ 8) × (n ≡ 3 ^ m) × (2 ^ m ≤ length (now own)) × (b < length (now t)) × (sumIn m (allFree m) (entry (now own)) < 2 ^ 32) × ((k : ℕ) → k < b → entry (now t) k ≡ sumIn m k (entry (now own))) ⌝ }
-    ensures { λ r. ⌜ r ≡ sumIn m b (entry (now (own .entry))) ⌝ }
+// Makes those sums.
+fn join(p: usize, t: &mut [u32], at: usize)
+    requires { ⌜ (p ≤ 6561) × (at ≤ 6561) × (at + p * 3 ≤ length (now t)) × ((b : ℕ) → b < p → entry (now t) (at + b) + entry (now t) (at + b + p) < 2 ^ 32) ⌝ }
+    ensures { λ r. ⌜ Made (at + p * 2) p (sumOf p at (now (t .entry))) (now (t .entry)) (now (t .exit)) ⌝ }
 {
-    if n <= b {
-        return 0;
+    for b in 0..p {
+        let off = at + b;
+        let on = off + p;
+        let free = on + p;
+        t[free] = t[off] + t[on];
     }
-    let p = boxes::free_power(m, b);
-    if p == 0 {
-        let c = boxes::digits_of(m, b).on;
-        return own[c];
-    }
-    t[b - p] + t[b - p * 2]
 }
 
-// The table worked out afresh from what each combination has of its own.
+// The entries from `at` on of the boxes over m marks, worked out from what the combinations have of their own, which stands from `low` on: those
+// with the highest mark off, those with it on, and their sums.
+fn fill_at(m: usize, own: &[u32], low: usize, t: &mut [u32], at: usize)
+    requires { ⌜ (m ≤ 8) × (low + 2 ^ m ≤ length (now own)) × (low + 2 ^ m ≤ 256) × (at + 3 ^ m ≤ length (now t)) × (at + 3 ^ m ≤ 6561) × (sumIn m (allFree m) (from low (entry (now own))) < 2 ^ 32) ⌝ }
+    ensures { λ r. ⌜ Made at (3 ^ m) (λ b. sumIn m b (from low (entry (now (own .entry))))) (now (t .entry)) (now (t .exit)) ⌝ }
+{
+    if m == 0 {
+        t[at] = own[low];
+        return;
+    }
+    let p = boxes::power3(m - 1);
+    let h = boxes::power2(m - 1);
+    fill_at(m - 1, own, low, t, at);
+    fill_at(m - 1, own, low + h, t, at + p);
+    join(p, t, at);
+}
+
+// The table worked out afresh from what each combination has of its own: n entries are of boxes, and the others 0.
 pub fn fill(m: usize, own: &[u32], t: &mut [u32])
-    requires { ⌜ (m ≤ 8) × (2 ^ m ≤ length (now own)) × (sumIn m (allFree m) (entry (now own)) < 2 ^ 32) ⌝ }
+    requires { ⌜ (m ≤ 8) × (2 ^ m ≤ length (now own)) × (3 ^ m ≤ length (now t)) × (sumIn m (allFree m) (entry (now own)) < 2 ^ 32) ⌝ }
     ensures { λ r. ⌜ now (t .exit) ≡ afresh (length (now (t .entry))) m (entry (now (own .entry))) ⌝ }
 {
-    let n = boxes::power3(m);
+    fill_at(m, own, 0, t, 0);
     let len = t.len();
-    for b in 0..len {
-        t[b] = worked_out(m, n, b, own, t);
+    let n = boxes::power3(m);
+    for b in n..len {
+        t[b] = 0;
     }
 }

@@ -1,61 +1,19 @@
--- Every box below b has passed its test.
-use Prim.Native.Nat.{ℕ, _-_, _^_, _≤_, _<_}
-use mathlib.Core.Path.{refl}
-use mathlib.Core.Path.{_≡_}
+use Prim.Native.Nat.{ℕ}
+use mathlib.Core.Path.{subst}
 use native.Mathlib.Omega.{arith}
-use borrow.Author.Needs.{needs}
-use borrow.Author.Count.{below-more}
-use borrow.Author.Tests.{not-true, not-false}
-use Rattle.boxes.proofs.Cases.{decided-yes, decided-no}
-use Rattle.tables.proofs.Halves.{Passed, passed, all-passed, failed}
+use native.Mathlib.Nat.{pow-le-pow-right}
+use Rattle.boxes.specs.Decides.{Decides}
+use Rattle.tables.specs.Tables.{entry}
+use Rattle.tables.specs.Thirds.{SumsOf}
+use Rattle.tables.proofs.Thirds.{from-start}
 use Rattle.tables.proofs.sums.Statement.{statement}
 use Rattle.tables.proofs.sums.Tie as tie
 
-abbrev Inv-loop : tie.InvT-loop
-Inv-loop m t n b₀ b = (b ≤ n) × (n ≡ 3 ^ m) × ((k : ℕ) → k < b → Passed m t k)
+sums-at-requires : tie.Need-sums-at-requires
+sums-at-requires c κs = let s = c .before in (s .pre .0, omega (arith, s .pre .1), omega (arith, pow-le-pow-right {n = 3} (omega arith) {i = s .args .m} {j = 8} (s .pre .0)))
 
-abbrev μ-loop : tie.MeasureT-loop
-μ-loop m t n b₀ b = n - b
-
-power3-requires : tie.Need-power3-requires Inv-loop μ-loop
-power3-requires c κs = search needs
-
-loop-holds : tie.Need-loop-holds Inv-loop μ-loop
-loop-holds c = (omega arith, c .power3 .ensures .0, λ k l. absurd (omega arith))
-
-halved-requires : tie.Need-halved-requires Inv-loop μ-loop
-halved-requires c κs = search needs
-
-returns : tie.Need-returns Inv-loop μ-loop
-returns c =
-    let h = c .before .halved in
-    decided-no refl (failed (c .before .before .before .before .before .before .args .t .now) (h .ensures) (not-true _ (c .if1 .taken)) (omega arith))
-
-add-b : tie.Need-add-b Inv-loop μ-loop
-add-b c = search needs
-
-loop-less : tie.Need-loop-less Inv-loop μ-loop
-loop-less c = search needs
-
-loop-again : tie.Need-loop-again Inv-loop μ-loop
-loop-again c =
-    let l = c .before .before .before .loop in
-    (omega arith, l .inv .1, below-more _ _ (l .inv .2) (passed (c .before .before .before .before .before .before .args .t .now) (c .before .halved .ensures) (not-false _ (c .if1 .left))))
-
-returns-2 : tie.Need-returns-2 Inv-loop μ-loop
-returns-2 c = decided-yes refl (all-passed (c .before .before .before .before .args .t .now) (λ b l. c .before .loop .inv .2 b (omega arith)))
+returns : tie.Need-returns
+returns c = let a = c .before .before .args in subst (λ (f : ℕ → ℕ). Decides (c .sums-at .result) (SumsOf (a .m) f)) (from-start (entry (a .t .now))) (c .sums-at .ensures)
 
 pub sums-spec : {M : Type 1} → statement M
-sums-spec =
-    tie.close
-    (tie.spec
-    Inv-loop
-    μ-loop
-    power3-requires
-    loop-holds
-    halved-requires
-    returns
-    add-b
-    loop-less
-    loop-again
-    returns-2)
+sums-spec = tie.close (tie.spec sums-at-requires returns)
