@@ -1,5 +1,6 @@
-/* Makes the calls that tests/differential.rs sends, and sends back what they did. Every lent area ends where a page begins that may not be
-   touched, or begins where such a page ends, and an area that is only read cannot be written to: one byte too far ends this program.
+/* Makes the calls that tests/differential.rs sends, and sends back what they did. A lent area ends where a page begins that may not be touched, or
+   begins where such a page ends, or has other bytes on both sides, which are sent back too. An area that is only read cannot be written to. So one byte too
+   far ends this program or is seen.
 
    A batch is a length in 4 bytes and that many bytes of requests; the answer to it is a length in 4 bytes and that many bytes of replies.
    A request: which entry (1 byte), two numbers (8 bytes each), then each area: 1 if it is null (1 byte), how many bytes stand before it, in it and
