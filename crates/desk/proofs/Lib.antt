@@ -1,0 +1,6 @@
+pub mod Texts
+pub mod Results
+pub mod States
+pub mod Pieces
+pub mod Settled
+pub mod Exists
