@@ -2,7 +2,7 @@
 -- piece by piece is the result.
 use mathlib.Core.Bool.{Bool}
 use Prim.Native.Nat.{ℕ, zero, suc, _+_, _^_, _≤_, _<_}
-use mathlib.Core.Path.{_≡_, refl, sym, ap, ap₂, _∙_, subst}
+use mathlib.Core.Path.{_≡_, sym, ap, ap₂, _∙_, subst}
 use mathlib.Core.List.{List, _++_}
 use native.Mathlib.Omega.{arith}
 use lib.ListN.{length, getD, take, drop, length-append}
@@ -14,7 +14,6 @@ use Rattle.boxes.proofs.Sums.{sum-le}
 use Rattle.lists.proofs.Exist.{at-most}
 use Rattle.tables.specs.Tables.{entry}
 use Rattle.print.specs.Areas.{Wrote}
-use Rattle.print.proofs.Areas.{wrote-text}
 use Rattle.sheet.specs.Limits.{mostMarks, entries}
 use Rattle.sheet.specs.Record.{Record, sheetOf}
 use Rattle.sheet.specs.Sound.{sizeOf}
@@ -107,4 +106,5 @@ module _ {r : Record} (good : Good r) where
                     ∙ ap₂ (λ (x : List ℕ) (y : ℕ). heads (sizeOf (r .marks) (r .class)) (length (g .list)) ++ x ++ lastLine y) lines (total-is sheet e totalled);
               };
           wrote = wrote-three p q t (omega (arith, p .place, q .place, t .place));
+          short = omega arith;
         }

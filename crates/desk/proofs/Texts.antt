@@ -5,13 +5,12 @@ use mathlib.Core.List.{List, [], _∷_, _++_, append-assoc, append-nil}
 use native.Mathlib.Numerals.{add-one}
 use native.Mathlib.Omega.{arith}
 use lib.ListN.{length, getD, take, length-append}
-use lib.Seq.{take-suc, take-all}
-use Rattle.boxes.specs.Boxes.{sumIn}
+use lib.Seq.{take-suc}
 use Rattle.lists.specs.Lists.{Boxes}
 use Rattle.times.specs.Texts.{ascii}
 use Rattle.print.specs.Texts.{decimal, clock, pattern}
 use Rattle.print.specs.Areas.{Wrote}
-use Rattle.print.proofs.Areas.{wrote-then, wrote-text}
+use Rattle.print.proofs.Areas.{wrote-then}
 use Rattle.print.proofs.Digits.{number-room, time-room, pattern-length}
 use Rattle.desk.specs.Prints.{refusal, heads, boxLine, boxLines, lastLine}
 

@@ -1,11 +1,11 @@
 -- The desk as a state that takes one byte after another, and what its calls promise: over any cutting of the input into pieces this comes to `Prints`
 -- (proofs/Pieces), and what a line is answered is printed when its newline is taken.
-use Prim.Native.Nat.{ℕ, suc, _+_}
+use Prim.Native.Nat.{ℕ, suc, _+_, _≤_}
 use mathlib.Core.Path.{_≡_}
 use mathlib.Core.Bool.{Bool, true, false, cond}
 use mathlib.Core.List.{List, [], _∷_, _++_}
 use lib.Dec.{eqb}
-use lib.ListN.{length, take}
+use lib.ListN.{take}
 use Rattle.print.specs.Areas.{Wrote}
 use Rattle.sheet.specs.Limits.{entries}
 use Rattle.sheet.specs.Record.{Record, sheetOf, opened}
@@ -135,6 +135,7 @@ pub record Printed (r : Record) (out : List ℕ) (at next : ℕ) (later : List �
   pub text : List ℕ
   pub result : Result r text
   pub wrote : Wrote out at text next later
+  pub short : next ≤ at + 1120
 
 pub record EndedBy (s : State) (out : List ℕ) (r : Told) (later : List ℕ) : Type 0 where
   pub state : State
@@ -165,7 +166,7 @@ pub record FinishedBy (s : State) (out : List ℕ) (r : ℕ) (later : List ℕ) 
 -- the whole of a session whose input comes in pieces
 pub data Run : State → List (List ℕ) → List ℕ → Type 0 where
   done : {s : State} {text : List ℕ} → Finished s text → Run s [] text
-  piece : {s t : State} {p said : List ℕ} {pieces : List (List ℕ)} {text : List ℕ} → Takes s p t said → Run t pieces text → Run s (p ∷ pieces) (said ++ text)
+  onward : {s t : State} {p said : List ℕ} {pieces : List (List ℕ)} {text : List ℕ} → Takes s p t said → Run t pieces text → Run s (p ∷ pieces) (said ++ text)
 
 unfoldable pub joined : List (List ℕ) → List ℕ
 joined [] = []

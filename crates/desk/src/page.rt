@@ -1,6 +1,6 @@
 // What the desk prints: refusals and the result, laid in a lent area.
 ghost use mathlib.Core.Path.{_≡_};
-ghost use Prim.Native.Nat.{ℕ, _+_, _*_, _^_, _≤_, _<_};
+ghost use Prim.Native.Nat.{ℕ, _+_, _*_, _≤_, _<_};
 ghost use mathlib.Core.List.{_++_};
 ghost use lib.ListN.{length, getD};
 ghost use Rattle.times.specs.Texts.{ascii};
@@ -12,7 +12,6 @@ ghost use Rattle.sheet.specs.Record.{Record, sheetOf};
 ghost use Rattle.histories.specs.Histories.{Good};
 ghost use Rattle.desk.specs.Prints.{refusal as refusalText, spoken as spokenText, heads, boxLine, boxLines, lastLine};
 ghost use Rattle.desk.specs.States.{Kept, Printed};
-
 use listing;
 use print;
 use sheet::Sheet;

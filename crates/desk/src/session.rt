@@ -6,7 +6,6 @@ ghost use Rattle.print.specs.Areas.{Wrote};
 ghost use Rattle.lines.specs.Taken.{rowOf, Fit};
 ghost use Rattle.desk.specs.Prints.{RowAsks};
 ghost use Rattle.desk.specs.States.{State, deskAt, start, At, Sound, cutOff, told, obeyedOf, isOver, FirstAnswered, EndedBy, FedBy, FinishedBy};
-
 use crate::page;
 use histories;
 use histories::Call;

@@ -1,6 +1,5 @@
 -- The text of the first i lines stands (`lines-more`), in an area that keeps its length.
 use Prim.Native.Nat.{ℕ, _≤_, _+_, _*_, _-_}
-use mathlib.Core.List.{List, _++_}
 use mathlib.Core.Path.{_≡_, refl, sym, ap, _∙_}
 use native.Mathlib.Omega.{arith}
 use lib.Seq.{take-all}
@@ -65,7 +64,7 @@ loop-again c =
       wrote-length w (omega (arith, s .pre .2, l .inv .1, l .inv .2)) ∙ l .inv .1,
       omega (arith, w .place, l .inv .2),
       wrote-text (sym (lines-more (s .args .m) f (s .args .list .now) (l .i) (omega arith)))
-      (wrote-then (l .inv .3) w (omega (arith, s .pre .2, l .inv .3 .place, l .inv .2))),
+          (wrote-then (l .inv .3) w (omega (arith, s .pre .2, l .inv .3 .place, l .inv .2))),
     )
 
 same-length : tie.Need-same-length Inv-loop μ-loop

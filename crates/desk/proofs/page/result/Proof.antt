@@ -1,15 +1,12 @@
 -- What the calls tell is the record's (`printed`), and none of them is refused.
-use Prim.Native.Nat.{ℕ}
-use mathlib.Core.List.{List}
-use mathlib.Core.Path.{_≡_, sym, ap, subst}
+use mathlib.Core.Path.{_≡_, sym}
 use native.Mathlib.Omega.{arith}
 use lib.Seq.{length-take-le}
-use lib.ListN.{length, take}
+use lib.ListN.{length}
 use borrow.Author.Needs.{needs}
 use Rattle.desk.proofs.Results.{size-small, total-small, sheet-marks, given, count-small, count-inside, numbers-below, printed}
 use Rattle.desk.proofs.Texts.{heads-length, last-length}
-use Rattle.histories.specs.Histories.{Good, Given}
-use Rattle.sheet.specs.Record.{Record}
+use Rattle.histories.specs.Histories.{Given}
 use Rattle.print.proofs.Areas.{wrote-length}
 use Rattle.desk.proofs.page.result.Statement.{statement}
 use Rattle.desk.proofs.page.result.Tie as tie

@@ -1,51 +1,41 @@
+-- By whether the line is too long; else as it reads.
+use mathlib.Core.Path.{sym}
+use native.Mathlib.Omega.{arith}
+use lib.Seq.{length-take-le}
 use borrow.Author.Needs.{needs}
+use Rattle.desk.proofs.States.{opens-lost, opens-read, first-lost, first-marks}
 use Rattle.desk.proofs.session.first_answer.Statement.{statement}
 use Rattle.desk.proofs.session.first_answer.Tie as tie
-use Rattle.desk.proofs.session.first_answer.Reads as reads
-use Rattle.desk.proofs.session.first_answer.Lts as lts
-use Rattle.lines.proofs.read_marks.Reads as read-marks-reads
-use Rattle.sheet.proofs.Sheet.open.Reads as open-reads
-use Rattle.sheet.proofs.Sheet.opened.Reads as opened-reads
 
--- src/session.rt:92:9
 opened-requires : tie.Need-opened-requires
 opened-requires c κs = search needs
 
--- src/session.rt:94:9
 returns : tie.Need-returns
-returns c = ?
+returns c = first-lost _ (opens-lost _ (c .if1 .taken)) (c .before .opened .ensures)
 
--- src/session.rt:98:35
 array-share-prefix-text : tie.Need-array-share-prefix-text
 array-share-prefix-text c = search needs
 
--- src/session.rt:98:35
 slice-aggregate-read-marks : tie.Need-slice-aggregate-read-marks
-slice-aggregate-read-marks c = ?
+slice-aggregate-read-marks c = let s = c .before .before .before .before in sym (length-take-le _ _ (omega (arith, s .pre .text, s .pre .len)))
 
--- src/session.rt:98:9
 read-marks-requires : tie.Need-read-marks-requires
 read-marks-requires c κs = search needs
 
--- src/session.rt:99:22
 enum-known-first : tie.Need-enum-known-first
 enum-known-first c = search needs
 
--- src/session.rt:100:9
 enum-told : tie.Need-enum-told
 enum-told c = search needs
 
--- src/session.rt:100:9
 returns-2 : tie.Need-returns-2
-returns-2 c = ?
+returns-2 c = first-lost _ (opens-read _ (c .before .before .before .before .before .if1 .left) (c .before .before .read-marks .ensures) (c .enum-told .given .1)) (c .before .before .before .before .before .before .opened .ensures)
 
--- src/session.rt:102:5
 open-requires : tie.Need-open-requires
 open-requires c κs = search needs
 
--- src/session.rt:88:1
 returns-3 : tie.Need-returns-3
-returns-3 c = ?
+returns-3 c = first-marks _ _ (opens-read _ (c .before .before .before .before .before .before .before .if1 .left) (c .before .before .before .before .read-marks .ensures) (c .before .before .first .given .1)) (c .«open» .ensures)
 
 pub first-answer-spec : {M : Type 1} → statement M
 first-answer-spec =
