@@ -1,12 +1,12 @@
 -- WHAT THE DESK PRINTS IS WHAT `Prints` ALLOWS, however the input is cut in pieces; and what a line is answered is out when its newline is in.
-use Prim.Native.Nat.{ℕ, suc, _+_, _<_, _≤_}
+use Prim.Native.Nat.{ℕ, suc, _+_, _-_, _<_, _≤_}
 use mathlib.Core.Path.{_≡_, refl, sym, ap, _∙_, subst}
 use mathlib.Core.List.{List, [], _∷_, _++_, append-assoc, append-nil}
 use native.Mathlib.Numerals.{add-one}
 use native.Mathlib.Omega.{arith}
 use lib.Dec.{eqb}
-use lib.ListN.{length, getD, take, drop, drop-of-length-le}
-use lib.Seq.{take-suc, drop-cons, length-take-le}
+use lib.ListN.{length, getD, take, drop, drop-of-length-le, length-drop}
+use lib.Seq.{take-suc, take-all, take-add, drop-cons}
 use borrow.Author.Tests.{eq-eqb, ne-eqb}
 use Rattle.boxes.proofs.Cases.{if}
 use Rattle.print.proofs.Areas.{wrote-none}
@@ -18,7 +18,7 @@ use Rattle.lines.specs.Rows.{Row, judged, rowsFrom, rows}
 use Rattle.lines.specs.Taken.{pushed}
 use Rattle.lines.proofs.Cuts.{none-judged}
 use Rattle.desk.specs.Prints.{refusal, spoken, firstNumber, numberFor, RowAsks, RowOpens, Onward, stopped, Session, empty, Prints}
-use Rattle.desk.specs.States.{State, first, going, over, start, more, Ended, Takes, none, byte, newline, Finished, in-first, in-going, in-over, recordIn, deskOf, At, EndedBy, upTo, FedBy, Run, done, onward, joined}
+use Rattle.desk.specs.States.{State, first, going, over, start, more, Ended, Takes, none, byte, newline, Finished, in-first, in-going, in-over, recordIn, deskOf, At, EndedBy, upTo, FedBy, Taken, Run, done, onward, joined}
 use Rattle.desk.specs.declared.session.Desk.{Desk}
 use Rattle.desk.specs.declared.session.Fed.{Fed}
 use Rattle.desk.specs.declared.session.Told.{Told}
@@ -199,17 +199,37 @@ lines-takes none = omega arith
 lines-takes {s} (byte {b = b} n p) = omega (arith, lines-takes p, lines-byte s b)
 lines-takes (newline e p) = omega (arith, lines-takes p, lines-ended e)
 
-module _ {s : State} {d : Desk} {piece out later : List ℕ} {r : Fed} (a : At d s) (f : FedBy s piece out r later) where
-  pub fed-at : At (r .desk) (f .state)
-  fed-at = record { is = f .desk; good = good-takes (f .takes) (a .good) }
+pub taken-none : {s : State} {d : Desk} → At d s → Taken s [] d
+taken-none {s} a = record { state = s; said = []; takes = none; at = a }
 
-  pub fed-number : r .desk .number ≤ d .number + r .used
-  fed-number =
-      omega (
-        arith,
-        f .used,
-        ap (λ (x : Desk). x .number) (f .desk),
-        ap (λ (x : Desk). x .number) (a .is),
-        lines-takes (f .takes),
-        length-take-le (upTo piece) piece (upTo-le piece),
-      )
+pub taken-number : {s : State} {bytes : List ℕ} {d k : Desk} → At d s → Taken s bytes k → k .number ≤ d .number + length bytes
+taken-number a w = omega (arith, ap (λ (x : Desk). x .number) (w .at .is), ap (λ (x : Desk). x .number) (a .is), lines-takes (w .takes))
+
+-- a piece of which `at` bytes are taken, and the next call on the rest of it as it is lent
+module _ (piece : List ℕ) (at : ℕ) where
+  rest : List ℕ
+  rest = take (length piece - at) (drop at piece)
+
+  rest-is : rest ≡ drop at piece
+  unfolding rest
+  rest-is = take-all (length piece - at) (drop at piece) (omega (arith, length-drop at piece))
+
+  pub rest-used : {s : State} {out later : List ℕ} {r : Fed} → at < length piece → FedBy s (take (length piece - at) (drop at piece)) out r later
+      → (0 < r .used) × (at + r .used ≤ length piece)
+  unfolding rest
+  rest-used h f =
+      let n : length rest ≡ length piece - at = ap length rest-is ∙ length-drop at piece in
+      (omega (arith, f .used, upTo-pos rest (omega arith)), omega (arith, f .used, upTo-le rest))
+
+  pub taken-more : {s : State} {k : Desk} {out later : List ℕ} {r : Fed} (w : Taken s (take at piece) k)
+      → FedBy (w .state) (take (length piece - at) (drop at piece)) out r later → Taken s (take (at + r .used) piece) (r .desk)
+  unfolding rest
+  taken-more {s} {r = r} w f = record {
+    state = f .state;
+    said = w .said ++ f .said;
+    takes =
+        subst (λ (l : List ℕ). Takes s l (f .state) (w .said ++ f .said))
+        (ap (λ (n : ℕ). take at piece ++ take n rest) (sym (f .used)) ∙ ap (λ (l : List ℕ). take at piece ++ take (r .used) l) rest-is ∙ sym (take-add at (r .used) piece))
+        (takes-then (w .takes) (f .takes));
+    at = record { is = f .desk; good = good-takes (f .takes) (w .at .good) };
+  }

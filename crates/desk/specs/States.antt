@@ -158,6 +158,13 @@ pub record FedBy (s : State) (piece out : List ℕ) (r : Fed) (later : List ℕ)
   pub desk : r .desk ≡ deskOf state
   pub wrote : Wrote out 0 said (r .wrote) later
 
+-- the desk has taken these bytes, from the state s on
+pub record Taken (s : State) (bytes : List ℕ) (d : Desk) : Type 0 where
+  pub state : State
+  pub said : List ℕ
+  pub takes : Takes s bytes state said
+  pub at : At d state
+
 pub record FinishedBy (s : State) (out : List ℕ) (r : ℕ) (later : List ℕ) : Type 0 where
   pub said : List ℕ
   pub finished : Finished s said

@@ -6,7 +6,7 @@ ghost use mathlib.Core.Path.{_≡_};
 ghost use mathlib.Core.Bool.{false};
 ghost use Prim.Native.Nat.{_+_, _≤_, _<_, _^_};
 ghost use lib.ListN.{length};
-ghost use Rattle.desk.specs.States.{Sound};
+ghost use Rattle.desk.specs.States.{State, At, Sound, Taken};
 
 struct Served {
     desk: Desk,
@@ -23,7 +23,7 @@ fn room() -> [u8; 2048]
 // One piece of input: what a line says is written before the next line is looked at.
 fn serve(d: Desk, piece: &[u8]) -> Served
     requires { ⌜ Sound d × (d .number + length (now piece) < 2 ^ 63) ⌝ }
-    ensures { λ r. ⌜ (r .stop ≡ false → Sound (r .desk) × (r .desk .number ≤ d .number + length (now (piece .entry)))) ⌝ }
+    ensures { λ r. ⌜ (r .stop ≡ false → (s : State) → At d s → Taken s (now (piece .entry)) (r .desk)) ⌝ }
 {
     let mut desk = d;
     let mut out = room();
