@@ -3,3 +3,4 @@ pub mod Kept
 pub mod Goods
 pub mod Histories
 pub mod Afresh
+pub mod Travels

@@ -8,7 +8,7 @@ ghost use Rattle.sheet.specs.Limits.{mostMarks, entries, mostHeld, mostA
 ghost use Rattle.sheet.specs.Record.{sheetFrom, sheetOf, opened, Addable};
 ghost use Rattle.sheet.specs.Calls.{openOf, changeOf, receiveOf, withdrawOf, ClassSize};
 
-mod numbers;
+pub mod numbers;
 pub mod soundness;
 
 use boxes;

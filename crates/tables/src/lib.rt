@@ -92,12 +92,12 @@ pub fn sums(m: usize, t: &[u32]) -> bool
     true
 }
 
-// What a table keeps of the box b: of a single combination its own, else the sum of the two halves, which stand in the table already.
-fn worked_out(m: usize, b: usize, own: &[u32], t: &[u32]) -> u32
-    requires { ⌜ (m ≤ 8) × (2 ^ m ≤ length (now own)) × (b < length (now t)) × (sumIn m (allFree m) (entry (now own)) < 2 ^ 32) × ((k : ℕ) → k < b → entry (now t) k ≡ sumIn m k (entry (now own))) ⌝ }
+// What a table keeps of the box b, of n boxes: of a single combination its own, else the sum of the two halves, which stand in the table already.
+fn worked_out(m: usize, n: usize, b: usize, own: &[u32], t: &[u32]) -> u32
+    requires { ⌜ (m ≤ 8) × (n ≡ 3 ^ m) × (2 ^ m ≤ length (now own)) × (b < length (now t)) × (sumIn m (allFree m) (entry (now own)) < 2 ^ 32) × ((k : ℕ) → k < b → entry (now t) k ≡ sumIn m k (entry (now own))) ⌝ }
     ensures { λ r. ⌜ r ≡ sumIn m b (entry (now (own .entry))) ⌝ }
 {
-    if boxes::power3(m) <= b {
+    if n <= b {
         return 0;
     }
     let p = boxes::free_power(m, b);
@@ -113,8 +113,9 @@ pub fn fill(m: usize, own: &[u32], t: &mut [u32])
     requires { ⌜ (m ≤ 8) × (2 ^ m ≤ length (now own)) × (sumIn m (allFree m) (entry (now own)) < 2 ^ 32) ⌝ }
     ensures { λ r. ⌜ now (t .exit) ≡ afresh (length (now (t .entry))) m (entry (now (own .entry))) ⌝ }
 {
-    let n = t.len();
-    for b in 0..n {
-        t[b] = worked_out(m, b, own, t);
+    let n = boxes::power3(m);
+    let len = t.len();
+    for b in 0..len {
+        t[b] = worked_out(m, n, b, own, t);
     }
 }

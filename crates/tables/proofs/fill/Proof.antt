@@ -9,19 +9,22 @@ use Rattle.tables.proofs.fill.Statement.{statement}
 use Rattle.tables.proofs.fill.Tie as tie
 
 abbrev Inv-loop : tie.InvT-loop
-Inv-loop m own t₀ n b₀ t b = (b ≤ n) × (n ≡ length t₀) × Standing m own t₀ t b
+Inv-loop m own t₀ n len b₀ t b = (b ≤ len) × (len ≡ length t₀) × Standing m own t₀ t b
 
 abbrev μ-loop : tie.MeasureT-loop
-μ-loop m own t₀ n b₀ t b = n - b
+μ-loop m own t₀ n len b₀ t b = len - b
+
+power3-requires : tie.Need-power3-requires Inv-loop μ-loop
+power3-requires c κs = search needs
 
 loop-holds : tie.Need-loop-holds Inv-loop μ-loop
 loop-holds c = (omega arith, refl, standing-none _ _ _)
 
 worked-out-requires : tie.Need-worked-out-requires Inv-loop μ-loop
 worked-out-requires c κs =
-    let s = c .before .before .before .before .before in
+    let s = c .before .before .before .before .before .before in
     let l = c .before .before .loop in
-    (s .pre .0, s .pre .1, omega (arith, l .inv .2 .long), s .pre .2, l .inv .2 .done)
+    (s .pre .0, c .before .before .before .power3 .ensures .0, s .pre .1, omega (arith, l .inv .2 .long), s .pre .2, l .inv .2 .done)
 
 mul-t : tie.Need-mul-t Inv-loop μ-loop
 mul-t c = search needs
@@ -52,6 +55,7 @@ fill-spec =
     (tie.spec
     Inv-loop
     μ-loop
+    power3-requires
     loop-holds
     worked-out-requires
     mul-t

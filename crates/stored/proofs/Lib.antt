@@ -1,0 +1,10 @@
+pub mod UpTo
+pub mod Runs
+pub mod Refusals
+pub mod Settled
+pub mod Numbers
+pub mod Listed
+pub mod Taken
+pub mod Back
+pub mod Trips
+pub mod Sample

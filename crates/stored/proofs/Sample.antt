@@ -1,0 +1,50 @@
+-- 01's sample sheet, stored, and what it is read as; and faults with their places.
+use Prim.Native.Nat.{ℕ, _^_, _≤_}
+use mathlib.Core.Path.{_≡_, refl, sym, subst}
+use mathlib.Core.Bool.{cond}
+use mathlib.Core.List.{List, [], _∷_}
+use native.Mathlib.Omega.{arith}
+use lib.Dec.{eqb, ltb}
+use Rattle.boxes.specs.Sums.{sum}
+use Rattle.sheet.specs.Limits.{mostMarks, entries, marksOk}
+use Rattle.sheet.specs.Record.{Record, opened}
+use Rattle.stored.specs.declared.Read.{Read}
+use Rattle.stored.specs.Fields.{number, marks, class-count, held-count, due, end, judge, good, refused, Reading, over, early, faulty}
+use Rattle.stored.specs.Answers.{readOf, Reads}
+use Rattle.stored.specs.Form.{bytes, listed, form}
+use Rattle.stored.proofs.Runs.{goes}
+use Rattle.stored.proofs.Trips.{form-same, told-alike, form-same-sheet}
+
+-- two marks; 01, 10 and 11 are in the class; 00 holds 4:00, 01 2:30 and 11 10:00
+abbrev sample : Record
+sample = record { marks = 2; class = ltb 0; times = λ c. cond (eqb c 0) 240 (cond (eqb c 1) 150 (cond (eqb c 3) 600 0)) }
+
+pub sample-stored : form sample
+    ≡ 0x02 ∷ 0x03 ∷ 0x00 ∷ 0x01 ∷ 0x02 ∷ 0x03 ∷ 0x03 ∷ 0x00 ∷ 0x00 ∷ 0xF0 ∷ 0x00 ∷ 0x00 ∷ 0x00 ∷ 0x01 ∷ 0x96 ∷ 0x00 ∷ 0x00 ∷ 0x00 ∷ 0x03 ∷ 0x58 ∷ 0x02 ∷ 0x00 ∷ 0x00 ∷ []
+unfolding form listed bytes sum
+sample-stored = refl
+
+pub sample-read : {a : Read} → Reads mostMarks entries (form sample) a → a ≡ readOf entries (good sample)
+unfolding marksOk sum
+sample-read {a} x =
+    let long : 3 ^ mostMarks ≤ entries = omega arith in
+    form-same-sheet mostMarks entries long (omega arith) sample refl (omega arith)
+    (subst (λ (t : List ℕ). Reads mostMarks entries t a) (sym (form-same (told-alike mostMarks entries long sample refl))) x)
+
+-- a count cut in half ends early
+pub half-count : Reading mostMarks (2 ∷ 3 ∷ []) (refused 10 2)
+unfolding judge number marksOk
+half-count = goes marks (2 ∷ 3 ∷ []) (due (class-count (opened 2))) (omega arith) refl (early {d = class-count (opened 2)} {l = 3 ∷ []} (omega arith))
+
+-- a count above 2^m is faulty at its own offset, even if the input ends there
+pub count-above : Reading mostMarks (2 ∷ 5 ∷ 0 ∷ []) (refused 10 1)
+unfolding judge number marksOk
+count-above = goes marks (2 ∷ 5 ∷ 0 ∷ []) (due (class-count (opened 2))) (omega arith) refl (faulty {d = class-count (opened 2)} {l = 5 ∷ 0 ∷ []} (omega arith) refl)
+
+-- a byte left over
+pub one-more : Reading mostMarks (1 ∷ 0 ∷ 0 ∷ 0 ∷ 0 ∷ 7 ∷ []) (refused 10 5)
+unfolding judge number marksOk
+one-more =
+    goes marks (1 ∷ 0 ∷ 0 ∷ 0 ∷ 0 ∷ 7 ∷ []) (due (class-count (opened 1))) (omega arith) refl
+    (goes (class-count (opened 1)) (0 ∷ 0 ∷ 0 ∷ 0 ∷ 7 ∷ []) (due (held-count (opened 1))) (omega arith) refl
+    (goes (held-count (opened 1)) (0 ∷ 0 ∷ 7 ∷ []) (end (opened 1)) (omega arith) refl over))

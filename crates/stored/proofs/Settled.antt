@@ -1,0 +1,24 @@
+-- No two answers to a call: the whole return is settled, and the later content of the lent bytes.
+use Prim.Native.Nat.{ℕ}
+use mathlib.Core.Path.{_≡_, refl, sym, ap, _∙_}
+use mathlib.Core.List.{List}
+use native.Mathlib.Omega.{arith}
+use Rattle.sheet.specs.declared.Sheet.{Sheet}
+use Rattle.sheet.specs.declared.Value.{Value}
+use Rattle.stored.specs.declared.Read.{Read}
+use Rattle.stored.specs.Answers.{readOf, Reads, Writes, spoiled, short, written}
+use Rattle.stored.proofs.Runs.{one}
+
+pub reads-settled : {most n : ℕ} {t : List ℕ} {a b : Read} → Reads most n t a → Reads most n t b → a ≡ b
+reads-settled {n = n} x y = x .is ∙ ap (readOf n) (one (x .run) (y .run)) ∙ sym (y .is)
+
+pub writes-settled : {most : ℕ} {s : Sheet} {out later later′ : List ℕ} {v w : Value} → Writes most s out v later → Writes most s out w later′ → (v ≡ w) × (later ≡ later′)
+writes-settled (spoiled h) (spoiled k) = (refl, refl)
+writes-settled (spoiled h) (short f l) = absurd (h f)
+writes-settled (spoiled h) (written f l) = absurd (h f)
+writes-settled (short f l) (spoiled k) = absurd (k f)
+writes-settled (short f l) (short g k) = (refl, refl)
+writes-settled (short f l) (written g k) = absurd (omega arith)
+writes-settled (written f l) (spoiled k) = absurd (k f)
+writes-settled (written f l) (short g k) = absurd (omega arith)
+writes-settled (written f l) (written g k) = (refl, refl)

@@ -1,0 +1,45 @@
+-- Functions of the combinations, one combination at a time: f with a value put at c, and f below n alone, d elsewhere.
+use Prim.Native.Nat.{ℕ, suc, _≤_, _<_}
+use mathlib.Core.Path.{_≡_, refl, sym, ap, _∙_, fun-ext}
+use mathlib.Core.Bool.{Bool, cond}
+use native.Mathlib.Omega.{arith}
+use lib.Dec.{ltb}
+use borrow.Author.Tests.{lt-ltb, le-ltb, eq-eqb, ne-eqb}
+use Rattle.boxes.proofs.Cases.{below-or, same-or}
+use Rattle.stored.specs.Fields.{put}
+
+module _ {A : Type 0} (c : ℕ) (v : A) (f : ℕ → A) where
+  pub put-here : put c v f c ≡ v
+  put-here = ap (λ (b : Bool). cond b v (f c)) (eq-eqb c c refl)
+
+  pub put-other : (x : ℕ) → (x ≡ c → ⊥) → put c v f x ≡ f x
+  put-other x n = ap (λ (b : Bool). cond b v (f x)) (ne-eqb x c n)
+
+abbrev pub upTo : {A : Type 0} → A → ℕ → (ℕ → A) → ℕ → A
+upTo d n f x = cond (ltb x n) (f x) d
+
+module _ {A : Type 0} (d : A) (f : ℕ → A) where
+  pub upTo-low : (n x : ℕ) → x < n → upTo d n f x ≡ f x
+  upTo-low n x l = ap (λ (b : Bool). cond b (f x) d) (lt-ltb x n l)
+
+  pub upTo-high : (n x : ℕ) → n ≤ x → upTo d n f x ≡ d
+  upTo-high n x l = ap (λ (b : Bool). cond b (f x) d) (le-ltb x n l)
+
+  pub upTo-none : upTo d 0 f ≡ (λ x. d)
+  upTo-none = fun-ext (λ x. upTo-high 0 x (omega arith))
+
+  step : (n x : ℕ) → (x ≡ n → ⊥) → upTo d n f x ≡ upTo d (suc n) f x
+  step n x q =
+      below-or x n (λ l. upTo-low n x l ∙ sym (upTo-low (suc n) x (omega arith))) (λ l. upTo-high n x l ∙ sym (upTo-high (suc n) x (omega arith)))
+
+  here : (n x : ℕ) → x ≡ n → upTo d (suc n) f x ≡ f n
+  here n x q = upTo-low (suc n) x (omega arith) ∙ ap f q
+
+  pub upTo-skip : (n : ℕ) → f n ≡ d → upTo d n f ≡ upTo d (suc n) f
+  upTo-skip n e = fun-ext (λ x. same-or x n (λ q. upTo-high n x (omega arith) ∙ sym e ∙ sym (here n x q)) (λ q. step n x q))
+
+  pub upTo-put : (n : ℕ) → put n (f n) (upTo d n f) ≡ upTo d (suc n) f
+  upTo-put n =
+      fun-ext (λ x. same-or x n
+      (λ q. ap (λ (b : Bool). cond b (f n) (upTo d n f x)) (eq-eqb x n q) ∙ sym (here n x q))
+      (λ q. put-other n (f n) (upTo d n f) x q ∙ step n x q))

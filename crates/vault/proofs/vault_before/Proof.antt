@@ -1,0 +1,24 @@
+use borrow.Author.Needs.{needs}
+use Rattle.vault.proofs.Replies.{second-before, first-keeps}
+use Rattle.boxes.proofs.Cases.{clash}
+use Rattle.vault.proofs.vault_before.Statement.{statement}
+use Rattle.vault.proofs.vault_before.Tie as tie
+
+is-before-requires : tie.Need-is-before-requires
+is-before-requires c κs = search needs
+
+replied-requires : tie.Need-replied-requires
+replied-requires c κs = search needs
+
+returns : tie.Need-returns
+returns c = second-before _ _ (c .before .before .is-before .ensures .0 (c .before .if1 .taken)) (c .replied .ensures)
+
+replied-requires-2 : tie.Need-replied-requires-2
+replied-requires-2 c κs = search needs
+
+returns-2 : tie.Need-returns-2
+returns-2 c = first-keeps _ _ (λ b. clash (c .before .before .is-before .ensures .1 b) (c .before .if1 .left)) (c .replied2 .ensures)
+
+pub vault-before-spec : {M : Type 1} → statement M
+vault-before-spec =
+    tie.close (tie.spec is-before-requires replied-requires returns replied-requires-2 returns-2)
