@@ -4,16 +4,50 @@ use boxes;
 use libc::STDOUT_FILENO;
 use listing;
 use lists;
+use reading;
 use sheet::Sheet;
 use times;
+use writing;
 ghost use mathlib.Core.Path.{_≡_};
 ghost use Prim.Native.Nat.{_≤_};
 ghost use lib.ListN.{length};
 
 const ONE_TO_SIX: [u8; 6] = [1, 2, 3, 4, 5, 6];
 
+const ONE_TO_THREE: [u8; 3] = [1, 2, 3];
+
 const ALL: [u8; 32] = [
-    0, 1, 2, 3, 4, 5, 6, 7, 8, 9, 10, 11, 12, 13, 14, 15, 16, 17, 18, 19, 20, 21, 22, 23, 24, 25, 26, 27, 28, 29, 30,
+    0,
+    1,
+    2,
+    3,
+    4,
+    5,
+    6,
+    7,
+    8,
+    9,
+    10,
+    11,
+    12,
+    13,
+    14,
+    15,
+    16,
+    17,
+    18,
+    19,
+    20,
+    21,
+    22,
+    23,
+    24,
+    25,
+    26,
+    27,
+    28,
+    29,
+    30,
     31,
 ];
 
@@ -159,6 +193,60 @@ fn document() {
     }
 }
 
+// An area for a stored form.
+fn form_area() -> [u8; 64]
+    ensures { λ r. ⌜ 64 ≡ length r ⌝ }
+{
+    [0u8; 64]
+}
+
+fn print_bytes(bytes: &[u8]) {
+    let mut i: usize = 0;
+    while i < bytes.len() {
+        word(b" ");
+        io::print_hex(STDOUT_FILENO, wide(bytes[i]) as u64, 2);
+        i += 1;
+    }
+    word(b"\n");
+}
+
+// The sheet of the desk program's sample.
+fn sample() -> Sheet {
+    let class = ONE_TO_THREE;
+    let a = with_class(2, &class).receive(3, 605);
+    let s = a.sheet;
+    let b = s.receive(1, 150);
+    let t = b.sheet;
+    let c = t.withdraw(3, 5);
+    let u = c.sheet;
+    let d = u.receive(0, 240);
+    let v = d.sheet;
+    v
+}
+
+// The sample's stored bytes, and those of the sheet that is read from them.
+fn stored() {
+    let mut area = form_area();
+    let wrote = writing::write(sample(), &mut area);
+    let n = wrote.value;
+    if n <= 64 {
+        let k = n as usize;
+        word(b"stored");
+        print_bytes(&area[..k]);
+        let read = reading::read(&area[..k]);
+        let sheet = read.sheet;
+        let mut again = form_area();
+        let w = writing::write(sheet, &mut again);
+        let j = w.value;
+        if j <= 64 {
+            let e = j as usize;
+            word(b"read back");
+            number(read.number);
+            print_bytes(&again[..e]);
+        }
+    }
+}
+
 // A text that is no running time: the answer and the place.
 fn time() {
     let r = times::answer(b"012:30");
@@ -182,10 +270,12 @@ fn amount(d: u64) {
 fn limit() {
     let opened = Sheet::open(1);
     let mut sheet = opened.sheet;
-    for i in 0..111_114 {
+    let mut i: u64 = 0;
+    while i < 111_114 {
         let r = sheet.receive(1, 35_999);
         let next = r.sheet;
         sheet = next;
+        i += 1;
     }
     let last = sheet.receive(1, 7_114);
     word(b"held 4000000000");
@@ -205,6 +295,7 @@ fn main() {
     known_sheet(5, &all);
     known_sheet(5, &function);
     document();
+    stored();
     time();
     amount(0);
     amount(1);

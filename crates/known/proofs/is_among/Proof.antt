@@ -1,46 +1,39 @@
+-- The loop goes on below the length.
+use Prim.Native.Nat.{_≤_, _-_}
+use lib.ListN.{length}
+use borrow.Author.Needs.{needs}
 use Rattle.known.proofs.is_among.Statement.{statement}
 use Rattle.known.proofs.is_among.Tie as tie
-use Rattle.known.proofs.is_among.Reads as reads
-use Rattle.known.proofs.is_among.Lts as lts
-use Rattle.known.proofs.wide.Reads as wide-reads
 
 abbrev Inv-loop : tie.InvT-loop
-Inv-loop class c i₀ i = ?
+Inv-loop class c i₀ i = i ≤ length class
 
 abbrev μ-loop : tie.MeasureT-loop
-μ-loop class c i₀ i = ?
+μ-loop class c i₀ i = length class - i
 
--- src/main.rt:64:5
 loop-holds : tie.Need-loop-holds Inv-loop μ-loop
-loop-holds c = ?
+loop-holds c = search needs
 
--- src/main.rt:65:17
 shared-slice-read-wide : tie.Need-shared-slice-read-wide Inv-loop μ-loop
-shared-slice-read-wide c = ?
+shared-slice-read-wide c = search needs
 
--- src/main.rt:65:12
 wide-requires : tie.Need-wide-requires Inv-loop μ-loop
-wide-requires c κs = ?
+wide-requires c κs = search needs
 
--- src/main.rt:66:13
 returns : tie.Need-returns Inv-loop μ-loop
-returns c = ?
+returns c = search needs
 
--- src/main.rt:68:9
 add-i : tie.Need-add-i Inv-loop μ-loop
-add-i c = ?
+add-i c = search needs
 
--- src/main.rt:64:5
 loop-less : tie.Need-loop-less Inv-loop μ-loop
-loop-less c = ?
+loop-less c = search needs
 
--- src/main.rt:64:5
 loop-again : tie.Need-loop-again Inv-loop μ-loop
-loop-again c = ?
+loop-again c = search needs
 
--- src/main.rt:62:1
 returns-2 : tie.Need-returns-2 Inv-loop μ-loop
-returns-2 c = ?
+returns-2 c = search needs
 
 pub is-among-spec : {M : Type 1} → statement M
 is-among-spec =

@@ -1,85 +1,65 @@
+-- The loop is counted.
+use Prim.Native.Nat.{_≤_, _-_}
+use borrow.Author.Needs.{needs}
 use Rattle.known.proofs.limit.Statement.{statement}
 use Rattle.known.proofs.limit.Tie as tie
-use Rattle.known.proofs.limit.Reads as reads
-use Rattle.known.proofs.limit.Lts as lts
-use Rattle.known.proofs.number.Reads as number-reads
-use Rattle.known.proofs.word.Reads as word-reads
-use Rattle.sheet.proofs.Sheet.open.Reads as open-reads
-use Rattle.sheet.proofs.Sheet.receive.Reads as receive-reads
 
 abbrev Inv-loop : tie.InvT-loop
-Inv-loop sheet₀ i₀ t9 t10 t11 sheet i = ?
+Inv-loop sheet₀ i₀ t9 t10 t11 sheet i = i ≤ 111114
 
 abbrev μ-loop : tie.MeasureT-loop
-μ-loop sheet₀ i₀ t9 t10 t11 sheet i = ?
+μ-loop sheet₀ i₀ t9 t10 t11 sheet i = 111114 - i
 
--- src/main.rt:183:9
 open-requires : tie.Need-open-requires Inv-loop μ-loop
-open-requires c κs = ?
+open-requires c κs = search needs
 
--- src/main.rt:185:5
 loop-holds : tie.Need-loop-holds Inv-loop μ-loop
-loop-holds c = ?
+loop-holds c = search needs
 
--- src/main.rt:186:13
 receive-requires : tie.Need-receive-requires Inv-loop μ-loop
-receive-requires c κs = ?
+receive-requires c κs = search needs
 
--- src/main.rt:185:9
 add-i : tie.Need-add-i Inv-loop μ-loop
-add-i c = ?
+add-i c = search needs
 
--- src/main.rt:185:5
 loop-less : tie.Need-loop-less Inv-loop μ-loop
-loop-less c = ?
+loop-less c = search needs
 
--- src/main.rt:185:5
 loop-again : tie.Need-loop-again Inv-loop μ-loop
-loop-again c = ?
+loop-again c = search needs
 
--- src/main.rt:190:9
 receive-requires-2 : tie.Need-receive-requires-2 Inv-loop μ-loop
-receive-requires-2 c κs = ?
+receive-requires-2 c κs = search needs
 
--- src/main.rt:191:10
 slice-aggregate-word : tie.Need-slice-aggregate-word Inv-loop μ-loop
-slice-aggregate-word c = ?
+slice-aggregate-word c = search needs
 
--- src/main.rt:191:5
 word-requires : tie.Need-word-requires Inv-loop μ-loop
-word-requires c κs = ?
+word-requires c κs = search needs
 
--- src/main.rt:192:5
 number-requires : tie.Need-number-requires Inv-loop μ-loop
-number-requires c κs = ?
+number-requires c κs = search needs
 
--- src/main.rt:194:9
 receive-requires-3 : tie.Need-receive-requires-3 Inv-loop μ-loop
-receive-requires-3 c κs = ?
+receive-requires-3 c κs = search needs
 
--- src/main.rt:195:10
 slice-aggregate-word-2 : tie.Need-slice-aggregate-word-2 Inv-loop μ-loop
-slice-aggregate-word-2 c = ?
+slice-aggregate-word-2 c = search needs
 
--- src/main.rt:195:5
 word-requires-2 : tie.Need-word-requires-2 Inv-loop μ-loop
-word-requires-2 c κs = ?
+word-requires-2 c κs = search needs
 
--- src/main.rt:196:5
 number-requires-2 : tie.Need-number-requires-2 Inv-loop μ-loop
-number-requires-2 c κs = ?
+number-requires-2 c κs = search needs
 
--- src/main.rt:197:10
 slice-aggregate-word-3 : tie.Need-slice-aggregate-word-3 Inv-loop μ-loop
-slice-aggregate-word-3 c = ?
+slice-aggregate-word-3 c = search needs
 
--- src/main.rt:197:5
 word-requires-3 : tie.Need-word-requires-3 Inv-loop μ-loop
-word-requires-3 c κs = ?
+word-requires-3 c κs = search needs
 
--- src/main.rt:182:1
 returns : tie.Need-returns Inv-loop μ-loop
-returns c = ?
+returns c = search needs
 
 pub limit-spec : {M : Type 1} → statement M
 limit-spec =

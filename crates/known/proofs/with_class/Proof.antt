@@ -1,52 +1,42 @@
+-- The loop goes on below the length.
+use Prim.Native.Nat.{_≤_, _-_}
+use lib.ListN.{length}
+use borrow.Author.Needs.{needs}
 use Rattle.known.proofs.with_class.Statement.{statement}
 use Rattle.known.proofs.with_class.Tie as tie
-use Rattle.known.proofs.with_class.Reads as reads
-use Rattle.known.proofs.with_class.Lts as lts
-use Rattle.known.proofs.wide.Reads as wide-reads
-use Rattle.sheet.proofs.Sheet.enter.Reads as enter-reads
-use Rattle.sheet.proofs.Sheet.open.Reads as open-reads
 
 abbrev Inv-loop : tie.InvT-loop
-Inv-loop m class sheet₀ i₀ sheet i = ?
+Inv-loop m class sheet₀ i₀ sheet i = i ≤ length class
 
 abbrev μ-loop : tie.MeasureT-loop
-μ-loop m class sheet₀ i₀ sheet i = ?
+μ-loop m class sheet₀ i₀ sheet i = length class - i
 
--- src/main.rt:50:9
 open-requires : tie.Need-open-requires Inv-loop μ-loop
-open-requires c κs = ?
+open-requires c κs = search needs
 
--- src/main.rt:53:5
 loop-holds : tie.Need-loop-holds Inv-loop μ-loop
-loop-holds c = ?
+loop-holds c = search needs
 
--- src/main.rt:54:40
 shared-slice-read-wide : tie.Need-shared-slice-read-wide Inv-loop μ-loop
-shared-slice-read-wide c = ?
+shared-slice-read-wide c = search needs
 
--- src/main.rt:54:35
 wide-requires : tie.Need-wide-requires Inv-loop μ-loop
-wide-requires c κs = ?
+wide-requires c κs = search needs
 
--- src/main.rt:54:13
 enter-requires : tie.Need-enter-requires Inv-loop μ-loop
-enter-requires c κs = ?
+enter-requires c κs = search needs
 
--- src/main.rt:57:9
 add-i : tie.Need-add-i Inv-loop μ-loop
-add-i c = ?
+add-i c = search needs
 
--- src/main.rt:53:5
 loop-less : tie.Need-loop-less Inv-loop μ-loop
-loop-less c = ?
+loop-less c = search needs
 
--- src/main.rt:53:5
 loop-again : tie.Need-loop-again Inv-loop μ-loop
-loop-again c = ?
+loop-again c = search needs
 
--- src/main.rt:49:1
 returns : tie.Need-returns Inv-loop μ-loop
-returns c = ?
+returns c = search needs
 
 pub with-class-spec : {M : Type 1} → statement M
 with-class-spec =
