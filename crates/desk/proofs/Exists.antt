@@ -2,13 +2,9 @@
 use Prim.Native.Nat.{ℕ, _+_}
 use mathlib.Core.Path.{_≡_, refl, subst}
 use mathlib.Core.List.{List, [], _∷_, _++_}
-use lib.ListN.{length}
-use Rattle.boxes.specs.Boxes.{sumIn}
 use Rattle.boxes.proofs.Cases.{if, same-or}
 use Rattle.lists.proofs.Model.{found}
 use Rattle.sheet.specs.Record.{Record}
-use Rattle.sheet.specs.Sound.{sizeOf}
-use Rattle.listing.specs.Listing.{totalOf}
 use Rattle.histories.specs.Histories.{Good}
 use Rattle.lines.specs.declared.Order.{Order}
 use Rattle.lines.specs.declared.Order.the-variants.{Unreadable}
@@ -16,7 +12,7 @@ use Rattle.lines.specs.declared.First.{First}
 use Rattle.lines.specs.declared.First.the-variants.{NotMarks}
 use Rattle.lines.specs.Rows.{Row, whole, spoiled, rows}
 use Rattle.lines.proofs.Decided.{asked-decided, opens-decided}
-use Rattle.desk.specs.Prints.{refusal, spoken, heads, boxLines, lastLine, Result, RowAsks, RowOpens, firstNumber, firstRecord, numberFor, recordFor, isEnd, Onward, Session, Prints}
+use Rattle.desk.specs.Prints.{refusal, spoken, page, Result, RowAsks, RowOpens, firstNumber, firstRecord, numberFor, recordFor, isEnd, Onward, Session, Prints}
 use Rattle.desk.proofs.States.{good-for, good-first, end-only}
 use Rattle.desk.proofs.Settled.{one-output}
 
@@ -30,10 +26,8 @@ row-opens spoiled = (NotMarks, RowOpens.lost)
 
 result : (r : Record) → Good r → (text : List ℕ) × Result r text
 result r good =
-    let l = found (r .marks) (r .class) (r .class) (good .class) (λ c e. e) in (
-      heads (sizeOf (r .marks) (r .class)) (length (l .0)) ++ boxLines (r .marks) (λ b. sumIn (r .marks) b (r .times)) (l .0) ++ lastLine (totalOf r),
-      record { list = l .0; first = l .2; is = refl },
-    )
+    let l = found (r .marks) (r .class) (r .class) (good .class) (λ c e. e) in
+    (page r (l .0), record { list = l .0; first = l .2; is = refl })
 
 onward : (k : ℕ) (r : Record) (l : List Row) → Good r → (text : List ℕ) × Onward k r l text
 onward k r [] good = let t = result r good in (t .0, Onward.stopped (t .1))

@@ -25,7 +25,7 @@ use Rattle.sheet.proofs.Tests.{boxes-fit, marks-most}
 use Rattle.listing.specs.Listing.{taken, totalOf, Listed, Totalled}
 use Rattle.histories.specs.Histories.{Good, Given}
 use Rattle.histories.proofs.Afresh.{held-afresh, size-afresh, total-afresh, list-afresh}
-use Rattle.desk.specs.Prints.{heads, boxLines, lastLine}
+use Rattle.desk.specs.Prints.{heads, boxLines, lastLine, page}
 use Rattle.desk.specs.States.{Printed}
 use Rattle.desk.proofs.Texts.{wrote-three, lines-same, boxes-below}
 
@@ -90,6 +90,7 @@ module _ {r : Record} (good : Good r) where
         → Wrote o₁ a (boxLines (sheet .marks) (entry (sheet .held)) (take (v .value) later)) b o₂
         → Wrote o₂ b (lastLine (total .value)) k o₃
         → a ≤ at + 64 → b ≤ a + 1024 → k ≤ b + 32 → at + 1120 ≤ length out → Printed r out at k o₃
+    unfolding page
     printed {sheet} {out} {at = at} {a} {b} {k} {size} {total} e sized totalled p q t ha hb hk h =
         let lines =
         ap (λ (s : Sheet). boxLines (s .marks) (entry (s .held)) (take (v .value) later)) e

@@ -3,20 +3,16 @@ use Prim.Native.Nat.{ℕ, _+_}
 use mathlib.Core.Path.{_≡_, refl, sym, ap, ap₂, _∙_, subst}
 use mathlib.Core.Bool.{false, true≢false}
 use mathlib.Core.List.{List, [], _++_}
-use lib.ListN.{length}
-use Rattle.boxes.specs.Boxes.{sumIn}
 use Rattle.lists.proofs.First.{unique}
 use Rattle.print.proofs.Areas.{wrote-settled}
 use Rattle.print.specs.Areas.{Wrote}
 use Rattle.sheet.specs.Record.{Record}
-use Rattle.sheet.specs.Sound.{sizeOf}
-use Rattle.listing.specs.Listing.{totalOf}
 use Rattle.lines.specs.declared.Order.{Order}
 use Rattle.lines.specs.declared.Order.the-variants.{End}
 use Rattle.lines.specs.declared.First.{First}
 use Rattle.lines.specs.Rows.{Row, judged}
 use Rattle.lines.proofs.Settled.{asked-settled, opens-settled}
-use Rattle.desk.specs.Prints.{refusal, spoken, heads, boxLines, lastLine, Result, RowAsks, RowOpens, firstNumber, firstRecord, numberFor, recordFor, isEnd, Onward, Session, Prints}
+use Rattle.desk.specs.Prints.{refusal, spoken, page, Result, RowAsks, RowOpens, firstNumber, firstRecord, numberFor, recordFor, isEnd, Onward, Session, Prints}
 use Rattle.desk.specs.States.{State, first, going, over, Ended, Takes, Finished, cutOff, deskOf, FedBy, FinishedBy}
 use Rattle.desk.specs.declared.session.Fed.{Fed}
 
@@ -29,11 +25,7 @@ opens-one (RowOpens.read a) (RowOpens.read b) = opens-settled a b
 opens-one RowOpens.lost RowOpens.lost = refl
 
 result-one : {r : Record} {a b : List ℕ} → Result r a → Result r b → a ≡ b
-result-one {r} x y =
-    x .is
-    ∙ ap (λ (l : List ℕ). heads (sizeOf (r .marks) (r .class)) (length l) ++ boxLines (r .marks) (λ b. sumIn (r .marks) b (r .times)) l ++ lastLine (totalOf r))
-    (unique (x .first) (y .first))
-    ∙ sym (y .is)
+result-one {r} x y = x .is ∙ ap (page r) (unique (x .first) (y .first)) ∙ sym (y .is)
 
 -- an order is not `end` and something else
 not-both : {o : Order} → End ≡ o → isEnd o ≡ false → ⊥

@@ -49,11 +49,16 @@ boxLines m seconds (b ∷ l) = boxLine m b (seconds b) ++ boxLines m seconds l
 unfoldable pub lastLine : ℕ → List ℕ
 lastLine seconds = ascii "total " ++ clock seconds ++ ascii "\n"
 
--- the result: the list is the first shortest of the class, a line's time is the sum over its box, the total is the sum over the class
+-- class size, number of lines, each line's pattern and time, class total: a line's time is the sum over its box, the total the sum over the class
+unfoldable pub page : Record → List ℕ → List ℕ
+page r list =
+    heads (sizeOf (r .marks) (r .class)) (length list) ++ boxLines (r .marks) (λ b. sumIn (r .marks) b (r .times)) list ++ lastLine (totalOf r)
+
+-- the result: the page of the first shortest list of the class
 pub record Result (r : Record) (text : List ℕ) : Type 0 where
   pub list : List ℕ
   pub first : FirstShortest (r .marks) (r .class) (r .class) list
-  pub is : text ≡ heads (sizeOf (r .marks) (r .class)) (length list) ++ boxLines (r .marks) (λ b. sumIn (r .marks) b (r .times)) list ++ lastLine (totalOf r)
+  pub is : text ≡ page r list
 
 -- lines
 
