@@ -4,3 +4,4 @@ pub mod States
 pub mod Pieces
 pub mod Settled
 pub mod Exists
+pub mod Answers

@@ -62,6 +62,15 @@ module _ {r : Record} (good : Good r) where
         list-afresh r good area v later (omega (arith, combinations-fit (r .marks) marks-small))
         (subst (λ (s : Sheet). Listed mostMarks s area v later) e l)
 
+    -- NEITHER 5 NOR 6 NOR 7 COMES when the result is printed
+    pub never-refused : {area later : List ℕ} {size v total : Value} → 32 ≡ length area → ClassSize mostMarks sheet size → Listed mostMarks sheet area v later
+        → Totalled mostMarks sheet total → (size .number ≡ 0) × (v .number ≡ 0) × (total .number ≡ 0)
+    never-refused {size = size} {total = total} long sized listed totalled = (
+      ap (λ (x : Value). x .number) (size-afresh r good size (subst (λ (s : Sheet). ClassSize mostMarks s size) e sized)),
+      ap (λ (x : Value). x .number) (given long listed .value),
+      ap (λ (x : Value). x .number) (total-afresh r good total (subst (λ (s : Sheet). Totalled mostMarks s total) e totalled)),
+    )
+
   module _ {area later : List ℕ} {v : Value} (g : Given r area v later) where
     count : v .value ≡ length (g .list)
     count = ap (λ (x : Value). x .value) (g .value)

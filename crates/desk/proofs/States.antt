@@ -110,6 +110,16 @@ at-more {d} {s} l b a e = record {
   good = good-more s b (a .good);
 }
 
+-- a desk is in one stage
+
+abbrev stageNo : Stage → ℕ
+stageNo Opening = 0
+stageNo Going = 1
+stageNo Over = 2
+
+other-stage : {P : Type 0} {d : Desk} {s : State} {t : Stage} → At d s → d .stage ≡ t → (stageNo (deskOf s .stage) ≡ stageNo t → ⊥) → P
+other-stage a q n = absurd (n (ap (λ (x : Desk). stageNo (x .stage)) (sym (a .is)) ∙ ap stageNo q))
+
 -- the start
 
 good-one : Good (opened 1)
@@ -187,8 +197,8 @@ module _ (d : Desk) (a : Answer) (w : ℕ) (out later : List ℕ) (f : FirstAnsw
     desk = k ∙ desk-is Going;
     wrote = wrote-text (ap (λ (t : Bool). cond t [] (refusal 1 (a .number))) (eq-eqb (a .number) 0 z)) p;
   }
-  first-opened (going n r begun) at q z e k = let y : Going ≡ Opening = sym (ap (λ (x : Desk). x .stage) (at .is)) ∙ q in absurd (let x : _≡_ {A = ℕ} 0 1 = cc in omega arith)
-  first-opened (over n r begun) at q z e k = let y : Over ≡ Opening = sym (ap (λ (x : Desk). x .stage) (at .is)) ∙ q in absurd (let x : _≡_ {A = ℕ} 0 1 = cc in omega arith)
+  first-opened (going n r begun) at q z e k = other-stage at q (λ z. omega arith)
+  first-opened (over n r begun) at q z e k = other-stage at q (λ z. omega arith)
 
   pub first-shut : (s : State) → At d s → d .stage ≡ Opening → (a .number ≡ 0 → ⊥) → (e : Desk) → e ≡ deskAt 1 Over (a .sheet)
       → EndedBy s out (record { desk = e; wrote = w }) later
@@ -200,8 +210,8 @@ module _ (d : Desk) (a : Answer) (w : ℕ) (out later : List ℕ) (f : FirstAnsw
     desk = k ∙ desk-is Over;
     wrote = wrote-text (ap (λ (t : Bool). cond t [] (refusal 1 (a .number))) (ne-eqb (a .number) 0 z) ∙ ap (refusal 1) number-is) p;
   }
-  first-shut (going n r begun) at q z e k = let y : Going ≡ Opening = sym (ap (λ (x : Desk). x .stage) (at .is)) ∙ q in absurd (let x : _≡_ {A = ℕ} 0 1 = cc in omega arith)
-  first-shut (over n r begun) at q z e k = let y : Over ≡ Opening = sym (ap (λ (x : Desk). x .stage) (at .is)) ∙ q in absurd (let x : _≡_ {A = ℕ} 0 1 = cc in omega arith)
+  first-shut (going n r begun) at q z e k = other-stage at q (λ z. omega arith)
+  first-shut (over n r begun) at q z e k = other-stage at q (λ z. omega arith)
 
 -- a later line
 
@@ -245,8 +255,8 @@ module _ (d : Desk) (o : Order) (y : Reply) (asks : RowAsks (d .sheet .marks) (r
         desk = k ∙ ap (λ (m : ℕ). deskAt (m + 1) Going (y .sheet)) num ∙ ap (λ (v : Reply). deskAt (n + 1) Going (v .sheet)) is;
         wrote = wrote-text (ap (λ (m : ℕ). spoken (m + 1) (y .number)) num ∙ ap (λ (v : Reply). spoken (n + 1) (v .number)) is) p;
       }
-  line-next (first begun) at q z p x k = let y : Opening ≡ Going = sym (ap (λ (v : Desk). v .stage) (at .is)) ∙ q in absurd (let t : _≡_ {A = ℕ} 0 1 = cc in omega arith)
-  line-next (over n r begun) at q z p x k = let y : Over ≡ Going = sym (ap (λ (v : Desk). v .stage) (at .is)) ∙ q in absurd (let t : _≡_ {A = ℕ} 0 1 = cc in omega arith)
+  line-next (first begun) at q z p x k = other-stage at q (λ z. omega arith)
+  line-next (over n r begun) at q z p x k = other-stage at q (λ z. omega arith)
 
   pub line-end : (s : State) → At d s → d .stage ≡ Going → y .ends ≡ true
       → ((r : Record) → Good r → d .sheet ≡ sheetOf entries r → Printed r out 0 w later)
@@ -263,15 +273,15 @@ module _ (d : Desk) (o : Order) (y : Reply) (asks : RowAsks (d .sheet .marks) (r
         desk = k ∙ ap (λ (v : Desk). deskAt (v .number + 1) Over (v .sheet)) (at .is);
         wrote = t .wrote;
       }
-  line-end (first begun) at q z p x k = let y : Opening ≡ Going = sym (ap (λ (v : Desk). v .stage) (at .is)) ∙ q in absurd (let t : _≡_ {A = ℕ} 0 1 = cc in omega arith)
-  line-end (over n r begun) at q z p x k = let y : Over ≡ Going = sym (ap (λ (v : Desk). v .stage) (at .is)) ∙ q in absurd (let t : _≡_ {A = ℕ} 0 1 = cc in omega arith)
+  line-end (first begun) at q z p x k = other-stage at q (λ z. omega arith)
+  line-end (over n r begun) at q z p x k = other-stage at q (λ z. omega arith)
 
 -- over
 
 pub still-over : {d : Desk} (s : State) (out : List ℕ) → At d s → d .stage ≡ Over → EndedBy s out (record { desk = d; wrote = 0 }) out
 still-over (over n r begun) out at q = record { state = over n r begun; said = []; ended = silent; desk = at .is; wrote = wrote-none out 0 }
-still-over (first begun) out at q = let y : Opening ≡ Over = sym (ap (λ (v : Desk). v .stage) (at .is)) ∙ q in absurd (let t : _≡_ {A = ℕ} 0 1 = cc in omega arith)
-still-over (going n r begun) out at q = let y : Going ≡ Over = sym (ap (λ (v : Desk). v .stage) (at .is)) ∙ q in absurd (let t : _≡_ {A = ℕ} 0 1 = cc in omega arith)
+still-over (first begun) out at q = other-stage at q (λ z. omega arith)
+still-over (going n r begun) out at q = other-stage at q (λ z. omega arith)
 
 -- the end of the input
 
@@ -279,8 +289,8 @@ module _ {d : Desk} where
   pub finish-first : (s : State) (out later : List ℕ) (w : ℕ) → At d s → d .stage ≡ Opening → Wrote out 0 (cutOff 1 (rowOf (d .line))) w later → FinishedBy s out w later
   unfolding begunIn
   finish-first (first begun) out later w at q p = record { said = cutOff 1 (judged begun); finished = in-first; wrote = wrote-text (ap (cutOff 1) (at-row at)) p }
-  finish-first (going n r begun) out later w at q p = let y : Going ≡ Opening = sym (ap (λ (v : Desk). v .stage) (at .is)) ∙ q in absurd (let t : _≡_ {A = ℕ} 0 1 = cc in omega arith)
-  finish-first (over n r begun) out later w at q p = let y : Over ≡ Opening = sym (ap (λ (v : Desk). v .stage) (at .is)) ∙ q in absurd (let t : _≡_ {A = ℕ} 0 1 = cc in omega arith)
+  finish-first (going n r begun) out later w at q p = other-stage at q (λ z. omega arith)
+  finish-first (over n r begun) out later w at q p = other-stage at q (λ z. omega arith)
 
   pub finish-going : (s : State) (out mid later : List ℕ) (v w : ℕ) → At d s → d .stage ≡ Going → Wrote out 0 (cutOff (d .number + 1) (rowOf (d .line))) v mid
       → ((r : Record) → Good r → d .sheet ≡ sheetOf entries r → Printed r mid v w later) → v + 1120 ≤ length out → FinishedBy s out w later
@@ -295,10 +305,10 @@ module _ {d : Desk} where
         finished = in-going (k .result);
         wrote = wrote-then f (k .wrote) (omega (arith, f .place, k .wrote .place, k .short));
       }
-  finish-going (first begun) out mid later v w at q p t h = let y : Opening ≡ Going = sym (ap (λ (v : Desk). v .stage) (at .is)) ∙ q in absurd (let t : _≡_ {A = ℕ} 0 1 = cc in omega arith)
-  finish-going (over n r begun) out mid later v w at q p t h = let y : Over ≡ Going = sym (ap (λ (v : Desk). v .stage) (at .is)) ∙ q in absurd (let t : _≡_ {A = ℕ} 0 1 = cc in omega arith)
+  finish-going (first begun) out mid later v w at q p t h = other-stage at q (λ z. omega arith)
+  finish-going (over n r begun) out mid later v w at q p t h = other-stage at q (λ z. omega arith)
 
   pub finish-over : (s : State) (out : List ℕ) → At d s → d .stage ≡ Over → FinishedBy s out 0 out
   finish-over (over n r begun) out at q = record { said = []; finished = in-over; wrote = wrote-none out 0 }
-  finish-over (first begun) out at q = let y : Opening ≡ Over = sym (ap (λ (v : Desk). v .stage) (at .is)) ∙ q in absurd (let t : _≡_ {A = ℕ} 0 1 = cc in omega arith)
-  finish-over (going n r begun) out at q = let y : Going ≡ Over = sym (ap (λ (v : Desk). v .stage) (at .is)) ∙ q in absurd (let t : _≡_ {A = ℕ} 0 1 = cc in omega arith)
+  finish-over (first begun) out at q = other-stage at q (λ z. omega arith)
+  finish-over (going n r begun) out at q = other-stage at q (λ z. omega arith)
