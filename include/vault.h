@@ -1,0 +1,158 @@
+/*
+ * vault.h: the shelf lists of the film vault, for C99 and C++.
+ *
+ * A sheet says, for 1 to 5 marks, which combinations of marks are in the class and how many seconds of film each combination holds. A
+ * combination is the sum of 2^i over the marks i that are on, 0 to 2^m - 1. A line is a box: each mark has a digit, 0 off, 1 on, 2 free, and the
+ * line's number is the sum of digit * 3^i, 0 to 3^m - 1; it contains every combination that agrees with its digits 0 and 1. A list is the
+ * shortest list of lines that together contain the class and nothing else, no combination twice, in rising order of each line's lowest
+ * combination, and the first such list by line numbers.
+ *
+ * A program keeps a sheet in its stored form: bytes, to be written to a file as they are, the same on every machine.
+ *
+ *     byte m
+ *     count (2 bytes, low byte first), then the combinations in the class, one byte each, strictly rising
+ *     count (2 bytes, low byte first), then the held combinations, strictly rising: one byte, and the seconds (1 or more) in 4 bytes, low first
+ *
+ * An entry that changes a sheet takes the old stored form in one area and writes the new one to another, which the program takes for the
+ * sheet from then on. Nothing else is kept: no memory is allocated, there is no state between calls, and nothing is locked, so that threads
+ * may call any entries at once as long as none writes to an area that another uses. An entry needs less than 64 kB of stack.
+ *
+ * Areas. A pointer and a length lend that many bytes for the time of the call. Any length is taken. A null pointer with length 0 is an empty
+ * area; with another length it must not be null. An area that is written to may not overlap any other; two that are only read may. A byte
+ * behind what was written stays as it was. An area that always suffices has VAULT_FORM_SIZE bytes for a stored form, and VAULT_LIST_SIZE bytes
+ * for a list.
+ *
+ * Replies. Every entry returns an answer, a place and a value. The place is 0 for every answer but VAULT_UNREADABLE; the value is 0 for every
+ * answer but VAULT_DONE. Every answer but VAULT_DONE is a refusal, and leaves every byte of every area as it was. If there are several
+ * reasons to refuse, the first in this order is answered: what reading the sheet answers, then what the call answers, in the order in which
+ * the entry below names them, then VAULT_ROOM. (vault_open reads no sheet.)
+ *
+ * Reading a sheet answers, before anything else,
+ *     VAULT_UNREADABLE  with place 0, if there is no byte
+ *     VAULT_MARKS       if its first byte is not 1 to 5
+ *     VAULT_UNREADABLE  with the offset of the first faulty field: a count above 2^m, a combination not below 2^m or not above the one before,
+ *                       seconds of 0, or seconds that bring the sum above VAULT_MOST_HELD; with the length, if the bytes end early; with the
+ *                       offset of the first byte left over.
+ */
+#ifndef VAULT_H
+#define VAULT_H
+
+#include <stddef.h>
+#include <stdint.h>
+
+#ifdef __cplusplus
+extern "C" {
+#endif
+
+/* The answers. */
+enum vault_answer {
+    VAULT_DONE = 0,        /* done */
+    VAULT_MARKS = 1,       /* opening or reading with marks not 1 to 5 */
+    VAULT_COMBINATION = 2, /* a combination not below 2^m */
+    VAULT_STANDING = 3,    /* a class change to the standing already had */
+    VAULT_AMOUNT = 4,      /* an amount not 1 to 35,999 seconds */
+    VAULT_ROOM = 5,        /* lent room too short */
+    VAULT_NO_LIST = 6,     /* no fitting list exists: never met, since every class has one */
+    VAULT_SPOILED = 7,     /* the sheet is spoiled: never met here, since a sheet that can be read is sound */
+    VAULT_ABOVE = 8,       /* a receipt would take the seconds of a line above 4,000,000,000 */
+    VAULT_BELOW = 9,       /* a withdrawal would take the seconds of a line below 0 */
+    VAULT_UNREADABLE = 10  /* text or stored bytes not readable; the place goes with it */
+};
+
+/* The limits. */
+#define VAULT_MOST_MARKS 5
+#define VAULT_MOST_COMBINATIONS 32
+#define VAULT_MOST_LINES 243
+#define VAULT_MOST_AMOUNT 35999      /* seconds of one receipt or withdrawal: 599:59 */
+#define VAULT_MOST_HELD 4000000000u  /* seconds of a sheet */
+
+/* Room that always suffices: for a stored form, 5 + 6 * 32 bytes, and for a list. */
+#define VAULT_FORM_SIZE 197
+#define VAULT_LIST_SIZE 32
+
+/* The combinations, 2^m, and the lines, 3^m, of a sheet of m marks, m from 1 to 5: 2, 4, 8, 16, 32 and 3, 9, 27, 81, 243. */
+#define VAULT_COMBINATIONS(m) (1u << (m))
+#define VAULT_LINES(m) ((m) == 1 ? 3u : (m) == 2 ? 9u : (m) == 3 ? 27u : (m) == 4 ? 81u : 243u)
+
+struct vault_reply {
+    uint64_t answer; /* an enum vault_answer */
+    uint64_t place;  /* 0 but for VAULT_UNREADABLE */
+    uint64_t value;  /* 0 when refused */
+};
+
+/*
+ * Opens a sheet of some marks, with every combination outside the class and nothing held. Value: the bytes written (5).
+ * Refused: VAULT_MARKS if marks is not 1 to 5; VAULT_ROOM if out has fewer than 5 bytes.
+ */
+struct vault_reply vault_open(uint64_t marks, uint8_t *out, size_t out_size);
+
+/*
+ * Puts a combination into the class (enter), or takes it out (leave). Value: the bytes written.
+ * Refused: reading's answer; VAULT_COMBINATION; VAULT_STANDING if it is in the class (outside it) already; VAULT_ROOM if out is too short for
+ * the new form.
+ */
+struct vault_reply vault_enter(const uint8_t *sheet, size_t sheet_size, uint64_t combination, uint8_t *out, size_t out_size);
+struct vault_reply vault_leave(const uint8_t *sheet, size_t sheet_size, uint64_t combination, uint8_t *out, size_t out_size);
+
+/*
+ * Adds seconds to what a combination holds. Value: the bytes written. The combination may be in the class or outside it.
+ * Refused: reading's answer; VAULT_COMBINATION; VAULT_AMOUNT if seconds is not 1 to VAULT_MOST_AMOUNT; VAULT_ABOVE if the sheet would hold more
+ * than VAULT_MOST_HELD; VAULT_ROOM if out is too short for the new form.
+ */
+struct vault_reply vault_receive(const uint8_t *sheet, size_t sheet_size, uint64_t combination, uint64_t seconds, uint8_t *out,
+                                 size_t out_size);
+
+/*
+ * Takes seconds from what a combination holds. Value: the bytes written.
+ * Refused: reading's answer; VAULT_COMBINATION; VAULT_AMOUNT as above; VAULT_BELOW if the combination holds less; VAULT_ROOM if out is too short
+ * for the new form.
+ */
+struct vault_reply vault_withdraw(const uint8_t *sheet, size_t sheet_size, uint64_t combination, uint64_t seconds, uint8_t *out,
+                                  size_t out_size);
+
+/*
+ * Reads a sheet and writes it again: the same bytes. A program that only wants to know whether bytes are a sheet may lend no room: the
+ * answer is then VAULT_ROOM if they are. Value: the bytes written.
+ * Refused: reading's answer; VAULT_ROOM if out has fewer bytes than the form.
+ */
+struct vault_reply vault_copy(const uint8_t *sheet, size_t sheet_size, uint8_t *out, size_t out_size);
+
+/*
+ * Writes the list of the class, one byte for each line's number. Value: the number of lines, 0 for an empty class.
+ * Refused: reading's answer; VAULT_ROOM if the area has fewer than 2^m bytes, however short the list is.
+ */
+struct vault_reply vault_list(const uint8_t *sheet, size_t sheet_size, uint8_t *list, size_t list_size);
+
+/* Value: how many combinations are in the class. Refused: reading's answer. */
+struct vault_reply vault_class_size(const uint8_t *sheet, size_t sheet_size);
+
+/* Value: the seconds held by the combinations in the class. Refused: reading's answer. */
+struct vault_reply vault_total(const uint8_t *sheet, size_t sheet_size);
+
+/*
+ * Value: how many combinations of the line are outside the class (outside), and the seconds that its combinations hold (held).
+ * Refused: reading's answer.
+ * Beware: a number not below 3^m, VAULT_LINES(m), is no line of the sheet, and is not refused: both entries answer VAULT_DONE with 0.
+ */
+struct vault_reply vault_outside(const uint8_t *sheet, size_t sheet_size, uint64_t line);
+struct vault_reply vault_held(const uint8_t *sheet, size_t sheet_size, uint64_t line);
+
+/*
+ * Compares two lists: the one with fewer lines is before the other, and of two with as many the one with the smaller number at the first
+ * place where they differ. Value: 1 if the second is before the first; 0 if the first is before the second or they are equal. Any bytes are
+ * taken as line numbers; an empty list is before every other. Never refused.
+ */
+struct vault_reply vault_before(const uint8_t *first, size_t first_size, const uint8_t *second, size_t second_size);
+
+/*
+ * Reads a running time: minutes 0 to 599 without a needless zero in front, a colon, two digits of seconds 00 to 59, and nothing else.
+ * Value: the seconds, 0 to 35,999.
+ * Refused: VAULT_UNREADABLE, with the length of the longest beginning of the text that some readable text begins with too.
+ */
+struct vault_reply vault_read_time(const uint8_t *text, size_t text_size);
+
+#ifdef __cplusplus
+}
+#endif
+
+#endif

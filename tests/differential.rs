@@ -1,0 +1,466 @@
+//! Compares the library with tests/model.rs: the list of every class of up to four marks, then random calls of every entry. They go to a program that
+//! makes them (tests/driver.c), and its replies and all the bytes of the areas that were lent, with those around them, must be the model's.
+//!
+//!     differential CALLS SEED PROGRAM WORD..
+//!
+//! starts PROGRAM and speaks with it through pipes. It prints what was compared, and ends with status 1 at the first difference.
+
+mod model;
+
+use model::{done, is_before, refused, Lists, Reply, Sheet, Times, MOST_AMOUNT, MOST_HELD};
+use std::io::{Read, Write};
+use std::process::{Child, Command, Stdio};
+
+const NAMES: [&str; 13] =
+    ["open", "enter", "leave", "receive", "withdraw", "copy", "list", "class_size", "total", "outside", "held", "before", "read_time"];
+
+/// xorshift64*: the same calls for the same seed, everywhere.
+struct Random(u64);
+
+impl Random {
+    fn next(&mut self) -> u64 {
+        self.0 ^= self.0 >> 12;
+        self.0 ^= self.0 << 25;
+        self.0 ^= self.0 >> 27;
+        self.0.wrapping_mul(0x2545_f491_4f6c_dd1d) >> 11
+    }
+
+    fn below(&mut self, n: u64) -> u64 {
+        self.next() % n
+    }
+
+    fn one_in(&mut self, n: u64) -> bool {
+        self.below(n) == 0
+    }
+
+    fn of<T: Copy>(&mut self, choices: &[T]) -> T {
+        choices[self.below(choices.len() as u64) as usize]
+    }
+
+    fn bytes(&mut self, n: u64) -> Vec<u8> {
+        (0..n).map(|_| self.next() as u8).collect()
+    }
+}
+
+/// An area that is lent, and what stands around it.
+#[derive(Clone, Debug)]
+struct Area {
+    null: bool,
+    before: Vec<u8>,
+    bytes: Vec<u8>,
+    behind: Vec<u8>,
+}
+
+impl Area {
+    fn new(r: &mut Random, bytes: Vec<u8>) -> Area {
+        let null = bytes.is_empty() && r.one_in(2);
+        let (before, behind) = r.of(&[(0, 48), (48, 0), (16, 16), (0, 0)]);
+        Area { null, before: r.bytes(before), bytes, behind: r.bytes(behind) }
+    }
+
+    fn all(&self) -> Vec<u8> {
+        [&self.before[..], &self.bytes, &self.behind].concat()
+    }
+
+    fn send(&self, to: &mut Vec<u8>) {
+        to.push(u8::from(self.null));
+        for part in [&self.before, &self.bytes, &self.behind] {
+            to.extend((part.len() as u16).to_le_bytes());
+        }
+        to.extend(self.all());
+    }
+}
+
+/// A call, and what the model makes of it.
+#[derive(Debug)]
+struct Call {
+    entry: usize,
+    numbers: [u64; 2],
+    areas: Vec<Area>,
+    reply: Reply,
+    later: Vec<Vec<u8>>,
+}
+
+/// What is to be written to an area, or the refusal.
+type Written = Result<Vec<u8>, Reply>;
+
+struct Tests {
+    r: Random,
+    lists: Lists,
+    times: Times,
+    pool: Vec<Sheet>,
+}
+
+impl Tests {
+    /// A number below `n` mostly; else at the limit, or far above, also such that its low bits are a number below.
+    fn number(&mut self, n: u64) -> u64 {
+        let low = self.r.below(n);
+        match self.r.below(16) {
+            0 => n,
+            1 => n - 1,
+            2 => self.r.of(&[n + 1, 255, 256, 243, 242, u64::MAX, 1 << 63, u64::from(u32::MAX)]),
+            3 => low + self.r.of(&[1 << 8, 1 << 16, 1 << 31, 1 << 32, 1 << 33, 1 << 48, 1 << 63]),
+            _ => low,
+        }
+    }
+
+    fn seconds(&mut self, sheet: &Sheet, c: u64) -> u64 {
+        let held = sheet.held.get(c as usize).copied().unwrap_or(7);
+        let rest = MOST_HELD - sheet.held.iter().sum::<u64>();
+        match self.r.below(12) {
+            0 => self.r.of(&[0, 1, MOST_AMOUNT, MOST_AMOUNT + 1]),
+            1 => self.r.of(&[held, held + 1, held.wrapping_sub(1)]),
+            2 => self.r.of(&[rest, rest + 1, rest.wrapping_sub(1)]),
+            3 => self.r.of(&[1 << 16, 1 << 32, (1 << 32) + 1, (1 << 32) + 600, 1 << 63, u64::MAX, MOST_HELD]),
+            _ => 1 + self.r.below(MOST_AMOUNT),
+        }
+    }
+
+    /// A sheet of any class, that may hold as much as a sheet can.
+    fn sheet(&mut self) -> Sheet {
+        let mut sheet = Sheet::open(self.r.of(&[1, 2, 3, 4, 5, 5])).unwrap();
+        let (dense, filled) = (self.r.below(101), self.r.of(&[0, 10, 50, 100]));
+        for c in 0..sheet.class.len() {
+            sheet.class[c] = self.r.below(100) < dense;
+            if self.r.below(100) < filled {
+                let most = self.r.of(&[1, 300, 36_000, 40_000_000, MOST_HELD]);
+                let rest = MOST_HELD - sheet.held.iter().sum::<u64>();
+                sheet.held[c] = (1 + self.r.below(most)).min(rest);
+            }
+        }
+        if self.r.one_in(4) {
+            let c = self.r.below(sheet.size()) as usize;
+            let rest = MOST_HELD - sheet.held.iter().sum::<u64>();
+            sheet.held[c] += rest.saturating_sub(self.r.of(&[0, 1, 600, 35_998, 35_999, 36_000]));
+        }
+        sheet
+    }
+
+    /// Bytes that are mostly a sheet's: as they are, or damaged in one place.
+    fn form(&mut self) -> Vec<u8> {
+        let at = self.r.below(self.pool.len() as u64) as usize;
+        if self.r.one_in(40) {
+            self.pool[at] = self.sheet();
+        }
+        let mut form = self.pool[at].form();
+        if self.r.below(4) != 0 {
+            return form;
+        }
+        let n = form.len() as u64;
+        let i = self.r.below(n) as usize;
+        let second = 3 + self.pool[at].class_size() as usize;
+        match self.r.below(14) {
+            0 => form.truncate(i),
+            1 => form.extend(self.r.bytes(1)),
+            2 => {
+                let m = self.r.below(40);
+                form.extend(self.r.bytes(m));
+            }
+            3 => form[0] = self.r.of(&[0, 1, 2, 3, 4, 5, 6, 64, 69, 255]),
+            4 => form[i] ^= 1 << self.r.below(8),
+            5 => form[i] = self.r.next() as u8,
+            6 => form[i] = form[i].wrapping_add(self.r.of(&[1, 255])),
+            7 => form[1] = form[1].wrapping_add(self.r.of(&[1, 255, 32])),
+            8 => form[second] = form[second].wrapping_add(self.r.of(&[1, 255, 32])),
+            9 => form[self.r.of(&[2, second + 1])] = self.r.of(&[1, 2, 128, 255]),
+            10 => form.swap(i, (i + 1) % n as usize),
+            11 => {
+                form.remove(i);
+            }
+            12 => return self.heavy(second, form),
+            _ => {
+                let m = self.r.of(&[0, 0, 1, 2, 3, 4, 5, 6, 20, 197, 2000]);
+                form = self.r.bytes(m);
+                if let Some(b) = form.first_mut() {
+                    *b %= 7;
+                }
+            }
+        }
+        form
+    }
+
+    /// Other seconds in one held combination: 0, or such that some sum goes above the limit, by one or by much.
+    fn heavy(&mut self, second: usize, mut form: Vec<u8>) -> Vec<u8> {
+        let held = (form.len() - second - 2) / 5;
+        if held > 0 {
+            let at = second + 3 + 5 * self.r.below(held as u64) as usize;
+            let top = MOST_HELD as u32;
+            let seconds: u32 = self.r.of(&[0, 1, top - 1, top, top + 1, u32::MAX, 1 << 31]);
+            form[at..at + 4].copy_from_slice(&seconds.to_le_bytes());
+        }
+        form
+    }
+
+    /// An area for `needed` bytes: of every length around that, or any.
+    fn room(&mut self, needed: usize) -> Vec<u8> {
+        let n = match self.r.below(8) {
+            0 => self.r.below(needed as u64 + 1),
+            1 => self.r.below(250),
+            2 => 0,
+            3 => 197,
+            _ => (needed as u64 + self.r.below(7)).saturating_sub(3),
+        };
+        self.r.bytes(n)
+    }
+
+    /// A call that writes into an area, the last that is lent, if that has as many bytes as are needed.
+    fn writing(&mut self, entry: usize, numbers: [u64; 2], sheet: Option<Vec<u8>>, written: Written, needed: usize, room: Vec<u8>) -> Call {
+        let mut areas: Vec<Area> = sheet.into_iter().map(|s| Area::new(&mut self.r, s)).collect();
+        let out = Area::new(&mut self.r, room);
+        let mut later: Vec<Vec<u8>> = areas.iter().map(Area::all).collect();
+        let mut all = out.all();
+        let reply = match written {
+            Err(reply) => reply,
+            Ok(_) if out.bytes.len() < needed => refused(5),
+            Ok(written) => {
+                all[out.before.len()..][..written.len()].copy_from_slice(&written);
+                done(written.len() as u64)
+            }
+        };
+        later.push(all);
+        areas.push(out);
+        Call { entry, numbers, areas, reply, later }
+    }
+
+    /// A call that writes nothing.
+    fn telling(&mut self, entry: usize, numbers: [u64; 2], lent: Vec<Vec<u8>>, reply: Reply) -> Call {
+        let areas: Vec<Area> = lent.into_iter().map(|bytes| Area::new(&mut self.r, bytes)).collect();
+        let later = areas.iter().map(Area::all).collect();
+        Call { entry, numbers, areas, reply, later }
+    }
+
+    fn open(&mut self) -> Call {
+        let marks = self.number(6);
+        let written = Sheet::open(marks).map(|s| s.form());
+        let room = self.room(5);
+        self.writing(0, [marks, 0], None, written, 5, room)
+    }
+
+    /// One of the calls that change a sheet. What was accepted takes the old sheet's place among those that later calls are made on.
+    fn change(&mut self, entry: usize) -> Call {
+        let form = self.form();
+        let read = Sheet::read(&form);
+        let like = read.clone().unwrap_or(self.pool[0].clone());
+        let c = self.number(like.size());
+        let seconds = self.seconds(&like, c);
+        let mut sheet = like;
+        let changed = read.map(|_| ()).and_then(|()| match entry {
+            1 => sheet.change(c, true),
+            2 => sheet.change(c, false),
+            3 => sheet.receive(c, seconds),
+            4 => sheet.withdraw(c, seconds),
+            _ => Ok(()),
+        });
+        let written = changed.map(|()| sheet.form());
+        let needed = written.as_ref().map_or(60, Vec::len);
+        let room = self.room(needed);
+        let call = self.writing(entry, [c, seconds], Some(form), written, needed, room);
+        if call.reply.answer == 0 {
+            let at = self.r.below(self.pool.len() as u64) as usize;
+            self.pool[at] = sheet;
+        }
+        call
+    }
+
+    fn list(&mut self) -> Call {
+        let form = self.form();
+        let read = Sheet::read(&form);
+        let needed = read.as_ref().map_or(32, |s| s.size()) as usize;
+        let written = read.map(|s| self.lists.first_shortest(&s));
+        let room = self.room(needed);
+        self.writing(6, [0, 0], Some(form), written, needed, room)
+    }
+
+    /// The list of a class, into an area of just the size for it.
+    fn list_of(&mut self, sheet: &Sheet) -> Call {
+        let written = self.lists.first_shortest(sheet);
+        let room = self.r.bytes(sheet.size());
+        self.writing(6, [0, 0], Some(sheet.form()), Ok(written), sheet.size() as usize, room)
+    }
+
+    fn told(&mut self, entry: usize) -> Call {
+        let form = self.form();
+        let read = Sheet::read(&form);
+        let line = self.number(read.as_ref().map_or(243, |s| 3u64.pow(s.marks)));
+        let reply = match read {
+            Err(reply) => reply,
+            Ok(s) => done(match entry {
+                7 => s.class_size(),
+                8 => s.total(),
+                9 => s.outside(line),
+                _ => s.held_in(line),
+            }),
+        };
+        self.telling(entry, [line, 0], vec![form], reply)
+    }
+
+    fn before(&mut self) -> Call {
+        let n = self.r.below(40);
+        let first = self.r.bytes(n);
+        let mut second = first.clone();
+        match self.r.below(4) {
+            0 => {
+                let n = self.r.below(40);
+                second = self.r.bytes(n);
+            }
+            1 if n > 0 => {
+                let i = self.r.below(n) as usize;
+                second[i] = self.r.next() as u8;
+            }
+            2 => second.push(self.r.next() as u8),
+            _ => {}
+        }
+        let (first, second) = if self.r.one_in(2) { (first, second) } else { (second, first) };
+        let reply = done(u64::from(is_before(&second, &first)));
+        self.telling(11, [0, 0], vec![first, second], reply)
+    }
+
+    fn read_time(&mut self) -> Call {
+        let minutes = self.r.of(&[0, 5, 9, 10, 59, 60, 99, 100, 598, 599, 600, 999, 1234]);
+        let minutes = if self.r.one_in(2) { minutes } else { self.r.below(700) };
+        let mut text = format!("{}:{:02}", minutes, self.r.below(64)).into_bytes();
+        for _ in 0..self.r.below(3) {
+            let i = self.r.below(text.len() as u64 + 1) as usize;
+            let c = self.r.of(b"0123456789::  -/;\n\0\xff");
+            match self.r.below(5) {
+                0 => text.truncate(i),
+                1 if i < text.len() => text[i] = c,
+                2 if i < text.len() => {
+                    text.remove(i);
+                }
+                3 => text.insert(i, c),
+                _ => text.push(c),
+            }
+        }
+        if self.r.one_in(50) {
+            let n = self.r.below(300);
+            text = self.r.bytes(n);
+        }
+        let reply = self.times.read(&text);
+        self.telling(12, [0, 0], vec![text], reply)
+    }
+
+    fn call(&mut self) -> Call {
+        match self.r.below(26) {
+            0 => self.open(),
+            1..=3 => self.change(1),
+            4..=6 => self.change(2),
+            7..=9 => self.change(3),
+            10..=12 => self.change(4),
+            13..=14 => self.change(5),
+            15..=17 => self.list(),
+            18 => self.told(7),
+            19 => self.told(8),
+            20..=21 => self.told(9),
+            22..=23 => self.told(10),
+            24 => self.before(),
+            _ => self.read_time(),
+        }
+    }
+}
+
+/// Every class of one to four marks.
+fn every_class() -> impl Iterator<Item = Sheet> {
+    let of = |marks: u64| (0u32..1 << (1 << marks)).map(move |class| (marks, class));
+    (1..=4).flat_map(of).map(|(marks, class)| {
+        let mut sheet = Sheet::open(marks).unwrap();
+        sheet.class.iter_mut().enumerate().for_each(|(c, standing)| *standing = class >> c & 1 == 1);
+        sheet
+    })
+}
+
+fn exchange(child: &mut Child, batch: &[Call]) -> std::io::Result<Vec<u8>> {
+    let mut request = Vec::new();
+    for call in batch {
+        request.push(call.entry as u8);
+        request.extend(call.numbers.iter().flat_map(|n| n.to_le_bytes()));
+        call.areas.iter().for_each(|a| a.send(&mut request));
+    }
+    let to = child.stdin.as_mut().unwrap();
+    to.write_all(&(request.len() as u32).to_le_bytes())?;
+    to.write_all(&request)?;
+    to.flush()?;
+    let from = child.stdout.as_mut().unwrap();
+    let mut size = [0; 4];
+    from.read_exact(&mut size)?;
+    let mut replies = vec![0; u32::from_le_bytes(size) as usize];
+    from.read_exact(&mut replies)?;
+    Ok(replies)
+}
+
+/// The reply at the front of the bytes, and what stands in the areas of the call.
+fn taken(call: &Call, bytes: &mut &[u8]) -> Option<(Reply, Vec<Vec<u8>>)> {
+    let mut take = |n: usize| {
+        let (front, rest) = bytes.split_at_checked(n)?;
+        *bytes = rest;
+        Some(front.to_vec())
+    };
+    let mut number = || Some(u64::from_le_bytes(take(8)?.try_into().ok()?));
+    let reply = Reply { answer: number()?, place: number()?, value: number()? };
+    let later: Option<Vec<_>> = call.later.iter().map(|all| take(all.len())).collect();
+    Some((reply, later?))
+}
+
+fn started(words: &[String]) -> Child {
+    Command::new(&words[0]).args(&words[1..]).stdin(Stdio::piped()).stdout(Stdio::piped()).spawn().expect("the program starts")
+}
+
+/// The call of a batch that ends the program.
+fn ending<'a>(words: &[String], batch: &'a [Call]) -> Option<&'a Call> {
+    let mut child = started(words);
+    batch.iter().find(|call| exchange(&mut child, std::slice::from_ref(*call)).is_err())
+}
+
+fn stop(why: &str) -> ! {
+    println!("{why}");
+    std::process::exit(1)
+}
+
+fn main() {
+    let words: Vec<String> = std::env::args().collect();
+    if words.len() < 4 {
+        stop("differential CALLS SEED PROGRAM WORD..");
+    }
+    let calls: u64 = words[1].parse().expect("a number of calls");
+    let seed: u64 = words[2].parse().expect("a seed");
+    let mut child = started(&words[3..]);
+    let mut tests = Tests { r: Random(seed.wrapping_mul(2) + 1), lists: Lists::new(), times: Times::new(), pool: Vec::new() };
+    for _ in 0..64 {
+        let sheet = tests.sheet();
+        tests.pool.push(sheet);
+    }
+    let mut counts = [[0u64; 11]; 13];
+    let mut made = 0;
+    let (mut classes, lists) = (every_class(), every_class().count() as u64);
+    while made < lists + calls {
+        let next = |_| match classes.next() {
+            Some(sheet) => tests.list_of(&sheet),
+            None => tests.call(),
+        };
+        let batch: Vec<Call> = (0..(lists + calls - made).min(512)).map(next).collect();
+        let Ok(replies) = exchange(&mut child, &batch) else {
+            stop(&format!("the program ended behind call {made}, {:?}, by\n{:x?}", child.wait(), ending(&words[3..], &batch)));
+        };
+        let mut rest = &replies[..];
+        for call in &batch {
+            made += 1;
+            let got = taken(call, &mut rest);
+            if got != Some((call.reply, call.later.clone())) {
+                stop(&format!("call {made}, vault_{}, differs\n{call:x?}\ngot {got:x?}", NAMES[call.entry]));
+            }
+            counts[call.entry][call.reply.answer as usize] += 1;
+        }
+        if !rest.is_empty() {
+            stop("the program says more than was asked");
+        }
+    }
+    drop(child.stdin.take());
+    if !child.wait().is_ok_and(|s| s.success()) {
+        stop("the program ended badly");
+    }
+    for (name, answers) in NAMES.iter().zip(&counts) {
+        let given: Vec<String> = (0..11).filter(|&a| answers[a] > 0).map(|a| format!("{a}: {}", answers[a])).collect();
+        println!("vault_{name:<11}{:>7} calls, by answer {}", answers.iter().sum::<u64>(), given.join(", "));
+    }
+    println!("differential: {lists} lists, of every class of up to four marks, and {calls} random calls compared, no difference (seed {seed})");
+}

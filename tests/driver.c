@@ -1,0 +1,146 @@
+/* Makes the calls that tests/differential.rs sends, and sends back what they did. Every lent area ends where a page begins that may not be
+   touched, or begins where such a page ends, and an area that is only read cannot be written to: one byte too far ends this program.
+
+   A batch is a length in 4 bytes and that many bytes of requests; the answer to it is a length in 4 bytes and that many bytes of replies.
+   A request: which entry (1 byte), two numbers (8 bytes each), then each area: 1 if it is null (1 byte), how many bytes stand before it, in it and
+   behind it (2 bytes each), and all these bytes. A reply: answer, place, value (8 bytes each), then all the bytes of each area as they are now.
+   Numbers have their low byte first. */
+#define _DEFAULT_SOURCE
+#include "vault.h"
+#include <stdio.h>
+#include <stdlib.h>
+#include <string.h>
+#include <sys/mman.h>
+
+enum { PAGE = 4096, ROOM = 32 * PAGE };
+
+struct area {
+    uint8_t *room, *whole, *p; /* the pages, all the bytes that were sent, the area itself */
+    size_t all, n;
+};
+
+static const uint8_t *at, *end;
+
+static void fail(const char *why)
+{
+    fprintf(stderr, "driver: %s\n", why);
+    exit(2);
+}
+
+static const uint8_t *bytes(size_t n)
+{
+    const uint8_t *p = at;
+    if ((size_t)(end - at) < n)
+        fail("a request ends early");
+    at += n;
+    return p;
+}
+
+static uint64_t number(size_t n)
+{
+    uint64_t x = 0;
+    const uint8_t *p = bytes(n);
+    for (size_t i = n; i-- > 0;)
+        x = x << 8 | p[i];
+    return x;
+}
+
+static void map(struct area *a)
+{
+    uint8_t *p = mmap(NULL, ROOM + 2 * PAGE, PROT_NONE, MAP_PRIVATE | MAP_ANONYMOUS, -1, 0);
+    if (p == MAP_FAILED)
+        fail("no memory");
+    a->room = p + PAGE;
+}
+
+static void protect(const struct area *a, int how)
+{
+    if (mprotect(a->room, ROOM, how) != 0)
+        fail("mprotect");
+}
+
+static void lend(struct area *a, int written)
+{
+    int null = (int)number(1);
+    size_t before = (size_t)number(2), n = (size_t)number(2), behind = (size_t)number(2);
+    a->all = before + n + behind;
+    a->n = n;
+    if (a->all > ROOM)
+        fail("an area is too long");
+    protect(a, PROT_READ | PROT_WRITE);
+    a->whole = behind != 0 && before == 0 ? a->room : a->room + ROOM - a->all;
+    if (a->all != 0)
+        memcpy(a->whole, bytes(a->all), a->all);
+    a->p = null ? NULL : a->whole + before;
+    if (!written)
+        protect(a, PROT_READ);
+}
+
+static uint8_t *put(uint8_t *to, uint64_t x, size_t n)
+{
+    for (size_t i = 0; i < n; i++, x >>= 8)
+        *to++ = (uint8_t)x;
+    return to;
+}
+
+static uint8_t *call(uint8_t *to, struct area *s, struct area *t)
+{
+    struct vault_reply r = {99, 99, 99};
+    int entry = (int)number(1);
+    uint64_t x = number(8), y = number(8);
+    int areas = entry == 0 || (entry > 6 && entry < 11) || entry == 12 ? 1 : 2;
+    lend(s, entry == 0);
+    if (areas == 2)
+        lend(t, entry != 11);
+    switch (entry) {
+    case 0: r = vault_open(x, s->p, s->n); break;
+    case 1: r = vault_enter(s->p, s->n, x, t->p, t->n); break;
+    case 2: r = vault_leave(s->p, s->n, x, t->p, t->n); break;
+    case 3: r = vault_receive(s->p, s->n, x, y, t->p, t->n); break;
+    case 4: r = vault_withdraw(s->p, s->n, x, y, t->p, t->n); break;
+    case 5: r = vault_copy(s->p, s->n, t->p, t->n); break;
+    case 6: r = vault_list(s->p, s->n, t->p, t->n); break;
+    case 7: r = vault_class_size(s->p, s->n); break;
+    case 8: r = vault_total(s->p, s->n); break;
+    case 9: r = vault_outside(s->p, s->n, x); break;
+    case 10: r = vault_held(s->p, s->n, x); break;
+    case 11: r = vault_before(s->p, s->n, t->p, t->n); break;
+    case 12: r = vault_read_time(s->p, s->n); break;
+    default: fail("no such entry");
+    }
+    to = put(put(put(to, r.answer, 8), r.place, 8), r.value, 8);
+    for (int i = 0; i < areas; i++) {
+        const struct area *a = i == 0 ? s : t;
+        memcpy(to, a->whole, a->all);
+        to += a->all;
+    }
+    return to;
+}
+
+int main(void)
+{
+    static uint8_t in[1 << 22], out[1 << 22];
+    struct area s, t;
+    uint8_t size[4];
+    map(&s);
+    map(&t);
+    while (fread(size, 1, 4, stdin) == 4) {
+        at = size;
+        end = size + 4;
+        size_t n = (size_t)number(4);
+        if (n > sizeof in || fread(in, 1, n, stdin) != n)
+            fail("a batch ends early");
+        at = in;
+        end = in + n;
+        uint8_t *to = out;
+        while (at < end) {
+            if ((size_t)(out + sizeof out - to) < 2 * ROOM + 24)
+                fail("a batch is too long");
+            to = call(to, &s, &t);
+        }
+        put(size, (uint64_t)(to - out), 4);
+        if (fwrite(size, 1, 4, stdout) != 4 || fwrite(out, 1, (size_t)(to - out), stdout) != (size_t)(to - out) || fflush(stdout) != 0)
+            fail("nobody reads");
+    }
+    return 0;
+}

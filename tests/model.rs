@@ -1,0 +1,273 @@
+//! The rules of the library written a second time, for the tests alone: plainly, and by other means than the library's wherever there are any.
+//! A sheet here is its class and what each combination holds; nothing is kept for a line, all of it is worked out when asked for.
+
+use std::collections::{HashMap, HashSet};
+
+pub const MOST_HELD: u64 = 4_000_000_000;
+pub const MOST_AMOUNT: u64 = 35_999;
+
+#[derive(Clone, PartialEq, Eq, Debug)]
+pub struct Sheet {
+    pub marks: u32,
+    pub class: Vec<bool>,
+    pub held: Vec<u64>,
+}
+
+#[derive(Clone, Copy, PartialEq, Eq, Debug, Default)]
+pub struct Reply {
+    pub answer: u64,
+    pub place: u64,
+    pub value: u64,
+}
+
+pub fn done(value: u64) -> Reply {
+    Reply { answer: 0, place: 0, value }
+}
+
+pub fn refused(answer: u64) -> Reply {
+    Reply { answer, place: 0, value: 0 }
+}
+
+pub fn unreadable(place: usize) -> Reply {
+    Reply { answer: 10, place: place as u64, value: 0 }
+}
+
+/// Whether line `b` contains combination `c`, by the digits from the lowest mark up.
+pub fn contains(marks: u32, b: u64, c: u64) -> bool {
+    (0..marks).all(|i| {
+        let digit = b / 3u64.pow(i) % 3;
+        digit == 2 || digit == c / 2u64.pow(i) % 2
+    })
+}
+
+/// A field at a time: each is judged once all of its bytes are there.
+struct Fields<'a> {
+    bytes: &'a [u8],
+    at: usize,
+}
+
+impl Fields<'_> {
+    /// The number in the next `n` bytes and their offset; if they are not all there, the length as the place.
+    fn next(&mut self, n: usize) -> Result<(u64, usize), Reply> {
+        let from = self.at;
+        let field = self.bytes.get(from..from + n).ok_or(unreadable(self.bytes.len()))?;
+        self.at = from + n;
+        Ok((field.iter().rev().fold(0, |x, &b| x * 256 + u64::from(b)), from))
+    }
+
+    fn fault_if(fault: bool, place: usize) -> Result<(), Reply> {
+        if fault {
+            Err(unreadable(place))
+        } else {
+            Ok(())
+        }
+    }
+
+    fn count(&mut self, most: u64) -> Result<u64, Reply> {
+        let (n, from) = self.next(2)?;
+        Self::fault_if(n > most, from)?;
+        Ok(n)
+    }
+
+    fn combination(&mut self, most: u64, before: Option<u64>) -> Result<u64, Reply> {
+        let (c, from) = self.next(1)?;
+        Self::fault_if(c >= most || before.is_some_and(|b| c <= b), from)?;
+        Ok(c)
+    }
+}
+
+impl Sheet {
+    pub fn open(marks: u64) -> Result<Sheet, Reply> {
+        if marks == 0 || marks > 5 {
+            return Err(refused(1));
+        }
+        let n = 1 << marks;
+        Ok(Sheet { marks: marks as u32, class: vec![false; n], held: vec![0; n] })
+    }
+
+    pub fn size(&self) -> u64 {
+        self.class.len() as u64
+    }
+
+    pub fn read(bytes: &[u8]) -> Result<Sheet, Reply> {
+        let mut fields = Fields { bytes, at: 0 };
+        let (marks, _) = fields.next(1)?;
+        let mut sheet = Sheet::open(marks)?;
+        let size = sheet.size();
+        let mut before = None;
+        for _ in 0..fields.count(size)? {
+            let c = fields.combination(size, before)?;
+            sheet.class[c as usize] = true;
+            before = Some(c);
+        }
+        let (mut before, mut sum) = (None, 0);
+        for _ in 0..fields.count(size)? {
+            let c = fields.combination(size, before)?;
+            let (seconds, from) = fields.next(4)?;
+            sum += seconds;
+            Fields::fault_if(seconds == 0 || sum > MOST_HELD, from)?;
+            sheet.held[c as usize] = seconds;
+            before = Some(c);
+        }
+        Fields::fault_if(fields.at < bytes.len(), fields.at)?;
+        Ok(sheet)
+    }
+
+    pub fn form(&self) -> Vec<u8> {
+        let mut form = vec![self.marks as u8];
+        let class: Vec<u8> = (0u8..32).filter(|&c| self.class.get(c as usize) == Some(&true)).collect();
+        form.extend((class.len() as u16).to_le_bytes());
+        form.extend(class);
+        let held: Vec<(usize, u64)> = self.held.iter().copied().enumerate().filter(|&(_, s)| s > 0).collect();
+        form.extend((held.len() as u16).to_le_bytes());
+        for (c, seconds) in held {
+            form.push(c as u8);
+            form.extend((seconds as u32).to_le_bytes());
+        }
+        form
+    }
+
+    pub fn change(&mut self, c: u64, into: bool) -> Result<(), Reply> {
+        let standing = self.class.get_mut(usize::try_from(c).unwrap()).ok_or(refused(2))?;
+        if *standing == into {
+            return Err(refused(3));
+        }
+        *standing = into;
+        Ok(())
+    }
+
+    pub fn receive(&mut self, c: u64, seconds: u64) -> Result<(), Reply> {
+        self.amount(c, seconds)?;
+        if self.held.iter().sum::<u64>() + seconds > MOST_HELD {
+            return Err(refused(8));
+        }
+        self.held[c as usize] += seconds;
+        Ok(())
+    }
+
+    pub fn withdraw(&mut self, c: u64, seconds: u64) -> Result<(), Reply> {
+        self.amount(c, seconds)?;
+        let left = self.held[c as usize].checked_sub(seconds).ok_or(refused(9))?;
+        self.held[c as usize] = left;
+        Ok(())
+    }
+
+    fn amount(&self, c: u64, seconds: u64) -> Result<(), Reply> {
+        if c >= self.size() {
+            return Err(refused(2));
+        }
+        if seconds < 1 || seconds > MOST_AMOUNT {
+            return Err(refused(4));
+        }
+        Ok(())
+    }
+
+    pub fn class_size(&self) -> u64 {
+        self.class.iter().filter(|&&c| c).count() as u64
+    }
+
+    pub fn total(&self) -> u64 {
+        self.class.iter().zip(&self.held).filter(|(&c, _)| c).map(|(_, s)| s).sum()
+    }
+
+    fn over_line(&self, line: u64, f: impl Fn(usize) -> u64) -> u64 {
+        if line >= 3u64.pow(self.marks) {
+            return 0;
+        }
+        (0..self.size()).filter(|&c| contains(self.marks, line, c)).map(|c| f(c as usize)).sum()
+    }
+
+    pub fn outside(&self, line: u64) -> u64 {
+        self.over_line(line, |c| u64::from(!self.class[c]))
+    }
+
+    pub fn held_in(&self, line: u64) -> u64 {
+        self.over_line(line, |c| self.held[c])
+    }
+}
+
+/// The shortest lists, from the least number of lines of every class of four marks, worked out once. A list of a class of five marks has lines with
+/// mark 4 free, which contain some of what both halves have; what is left of either half has lines of its own. A class of fewer marks is one of
+/// five with the higher marks off, and its lines have the same numbers.
+pub struct Lists {
+    lines: Vec<(u64, u32)>,
+    least: Vec<u8>,
+}
+
+impl Lists {
+    pub fn new() -> Lists {
+        let lines: Vec<(u64, u32)> = (0..243).map(|b| (b, (0..32).filter(|&c| contains(5, b, c)).map(|c| 1 << c).sum())).collect();
+        let mut least = vec![0u8; 1 << 16];
+        for class in 1u32..1 << 16 {
+            let low = class & class.wrapping_neg();
+            let inside = lines.iter().take(81).filter(|&&(_, s)| s & low != 0 && s & !class == 0);
+            least[class as usize] = inside.map(|&(_, s)| 1 + least[(class & !s) as usize]).min().unwrap();
+        }
+        Lists { lines, least }
+    }
+
+    /// The least number of lines of a class of five marks.
+    fn least_lines(&self, class: u32) -> u8 {
+        let (off, on) = (class & 0xffff, class >> 16);
+        let both = off & on;
+        let mut part = both;
+        let mut best = u8::MAX;
+        loop {
+            let of = |s: u32| self.least[s as usize];
+            best = best.min(of(part) + of(off & !part) + of(on & !part));
+            if part == 0 {
+                return best;
+            }
+            part = (part - 1) & both;
+        }
+    }
+
+    /// The first shortest list: at each place the smallest number that leaves a class with one line fewer.
+    pub fn first_shortest(&self, sheet: &Sheet) -> Vec<u8> {
+        let mut class: u32 = sheet.class.iter().enumerate().filter(|(_, &c)| c).map(|(i, _)| 1 << i).sum();
+        let mut left = self.least_lines(class);
+        let mut list = Vec::new();
+        while class != 0 {
+            let low = class & class.wrapping_neg();
+            let inside = |s: u32| s & low != 0 && s & !class == 0;
+            let next = self.lines.iter().find(|&&(_, s)| inside(s) && self.least_lines(class & !s) + 1 == left);
+            let &(b, s) = next.expect("some line leaves one fewer");
+            list.push(b as u8);
+            class &= !s;
+            left -= 1;
+        }
+        list
+    }
+}
+
+/// All the running times there are, and all their beginnings.
+pub struct Times {
+    values: HashMap<Vec<u8>, u64>,
+    beginnings: HashSet<Vec<u8>>,
+}
+
+impl Times {
+    pub fn new() -> Times {
+        let mut times = Times { values: HashMap::new(), beginnings: HashSet::new() };
+        for t in 0..=MOST_AMOUNT {
+            let text = format!("{}:{:02}", t / 60, t % 60).into_bytes();
+            for n in 0..=text.len() {
+                times.beginnings.insert(text[..n].to_vec());
+            }
+            times.values.insert(text, t);
+        }
+        times
+    }
+
+    pub fn read(&self, text: &[u8]) -> Reply {
+        match self.values.get(text) {
+            Some(&t) => done(t),
+            None => unreadable((0..=text.len().min(6)).rev().find(|&n| self.beginnings.contains(&text[..n])).unwrap()),
+        }
+    }
+}
+
+/// Whether list `a` is before list `b`.
+pub fn is_before(a: &[u8], b: &[u8]) -> bool {
+    (a.len(), a) < (b.len(), b)
+}
