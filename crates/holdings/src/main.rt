@@ -14,10 +14,10 @@ struct Served {
 }
 
 // An output area. Made in a function of its own, so that no proof meets its zeros.
-fn room() -> [u8; 2048]
+fn room() -> [u8; Desk::ROOM]
     ensures { λ r. ⌜ 2048 ≡ length r ⌝ }
 {
-    [0u8; 2048]
+    [0u8; Desk::ROOM]
 }
 
 // One piece of input: what a line says is written before the next line is looked at.
