@@ -5,3 +5,4 @@ pub mod Pieces
 pub mod Settled
 pub mod Exists
 pub mod Answers
+pub mod Samples
