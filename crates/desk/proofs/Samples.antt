@@ -1,0 +1,78 @@
+-- 01's sample, worked out from the definitions.
+use Prim.Native.Nat.{ℕ, _<_}
+use mathlib.Core.Path.{_≡_, refl, subst, fun-ext}
+use mathlib.Core.Bool.{Bool, true, false, _||_}
+use mathlib.Core.List.{List, [], _∷_, _++_}
+use native.Mathlib.Omega.{arith}
+use lib.Dec.{eqb}
+use Rattle.boxes.specs.Boxes.{sumIn, contains, agrees}
+use Rattle.boxes.specs.Sums.{sum}
+use Rattle.lists.specs.Lists.{FirstShortest}
+use Rattle.lists.specs.Known.{among, table, Shown}
+use Rattle.lists.proofs.Known.{known}
+use Rattle.times.specs.Texts.{ascii, Readable}
+use Rattle.print.specs.Texts.{decimal, decimalIn, clock, pattern}
+use Rattle.clock.proofs.ReadsBack.{clock-readable}
+use Rattle.sheet.specs.Limits.{marksOk, amountOk}
+use Rattle.lines.specs.Rows.{whole, rowsFrom, judged}
+use Rattle.lines.specs.declared.Order.the-variants.{Enter, Receive, Withdraw}
+use Rattle.lines.specs.declared.First.the-variants.{Marks}
+use Rattle.lines.specs.Words.{written, enters, receives, withdraws, ends, said, marks}
+use Rattle.desk.specs.Prints.{heads, boxLine, boxLines, lastLine, page, RowAsks, RowOpens, Onward, Session, Prints}
+
+-- a class that was entered one combination after another
+entered : (a b c : Bool) → (a || (b || (c || false))) ≡ (((false || a) || b) || c)
+entered true b c = refl
+entered false true c = refl
+entered false false true = refl
+entered false false false = refl
+
+class : ℕ → Bool
+class x = ((false || eqb x 1) || eqb x 2) || eqb x 3
+
+list : FirstShortest 2 class class (1 ∷ 5 ∷ [])
+unfolding table Shown among class
+list =
+    subst (λ (p : ℕ → Bool). FirstShortest 2 p p (1 ∷ 5 ∷ [])) (fun-ext {f = among (1 ∷ 2 ∷ 3 ∷ [])} (λ x. entered (eqb x 1) (eqb x 2) (eqb x 3)))
+    (known .1 .1 .1 .1 .1 .0)
+
+time-605 : Readable (ascii "10:05") 605
+unfolding clock decimal decimalIn
+time-605 = clock-readable 605 (omega arith)
+
+time-150 : Readable (ascii "2:30") 150
+unfolding clock decimal decimalIn
+time-150 = clock-readable 150 (omega arith)
+
+time-5 : Readable (ascii "0:05") 5
+unfolding clock decimal decimalIn
+time-5 = clock-readable 5 (omega arith)
+
+time-240 : Readable (ascii "4:00") 240
+unfolding clock decimal decimalIn
+time-240 = clock-readable 240 (omega arith)
+
+enter : (c : ℕ) (line : List ℕ) → c < 4 → line ≡ ascii "in " ++ written 2 c → RowAsks 2 (whole line) (Enter c)
+enter c line h e = RowAsks.read (said (enters (record { small = h; text = e })))
+
+receive : (c d : ℕ) (line time : List ℕ) → c < 4 → Readable time d → line ≡ ascii "recv " ++ written 2 c ++ ascii " " ++ time → RowAsks 2 (whole line) (Receive c d)
+receive c d line time h t e = RowAsks.read (said (receives (record { small = h; time = time; readable = t; text = e })))
+
+withdraw : (c d : ℕ) (line time : List ℕ) → c < 4 → Readable time d → line ≡ ascii "gone " ++ written 2 c ++ ascii " " ++ time → RowAsks 2 (whole line) (Withdraw c d)
+withdraw c d line time h t e = RowAsks.read (said (withdraws (record { small = h; time = time; readable = t; text = e })))
+
+abbrev printed : List ℕ
+printed = ascii "class 3\nlines 2\n01 2:30\n1- 10:00\ntotal 12:30\n"
+
+pub sample : Prints (ascii "marks 2\nin 01\nin 10\nin 11\nrecv 11 10:05\nrecv 01 2:30\ngone 11 0:05\nrecv 00 4:00\nend\n") printed
+unfolding rowsFrom judged written marksOk amountOk sum class page heads boxLine boxLines lastLine decimal decimalIn clock pattern sumIn contains agrees
+sample =
+    Session.opens {f = Marks 2} (RowOpens.read (marks {n = 2} (omega arith, refl))) refl
+    (Onward.next {text = printed} {o = Enter 1} (enter 1 (ascii "in 01") (omega arith) refl) refl
+    (Onward.next {text = printed} {o = Enter 2} (enter 2 (ascii "in 10") (omega arith) refl) refl
+    (Onward.next {text = printed} {o = Enter 3} (enter 3 (ascii "in 11") (omega arith) refl) refl
+    (Onward.next {text = printed} {o = Receive 3 605} (receive 3 605 (ascii "recv 11 10:05") (ascii "10:05") (omega arith) time-605 refl) refl
+    (Onward.next {text = printed} {o = Receive 1 150} (receive 1 150 (ascii "recv 01 2:30") (ascii "2:30") (omega arith) time-150 refl) refl
+    (Onward.next {text = printed} {o = Withdraw 3 5} (withdraw 3 5 (ascii "gone 11 0:05") (ascii "0:05") (omega arith) time-5 refl) refl
+    (Onward.next {text = printed} {o = Receive 0 240} (receive 0 240 (ascii "recv 00 4:00") (ascii "4:00") (omega arith) time-240 refl) refl
+    (Onward.ended (RowAsks.read (said (ends refl))) (record { list = 1 ∷ 5 ∷ []; first = list; is = refl })))))))))

@@ -1,0 +1,93 @@
+// The desk program: reads standard input, feeds the desk, and writes at once what it says.
+use desk::Desk;
+use libc::STDIN_FILENO;
+use libc::STDOUT_FILENO;
+ghost use mathlib.Core.Path.{_≡_};
+ghost use mathlib.Core.Bool.{false};
+ghost use Prim.Native.Nat.{_+_, _≤_, _<_, _^_};
+ghost use lib.ListN.{length};
+ghost use Rattle.desk.specs.States.{State, At, Sound, Taken};
+
+struct Served {
+    desk: Desk,
+    stop: bool,
+}
+
+// An output area. Made in a function of its own, so that no proof meets its zeros.
+fn room() -> [u8; Desk::ROOM]
+    ensures { λ r. ⌜ 2048 ≡ length r ⌝ }
+{
+    [0u8; Desk::ROOM]
+}
+
+// One piece of input: what a line says is written before the next line is looked at.
+fn serve(d: Desk, piece: &[u8]) -> Served
+    requires { ⌜ Sound d × (d .number + length (now piece) < 2 ^ 63) ⌝ }
+    ensures { λ r. ⌜ (r .stop ≡ false → (s : State) → At d s → Taken s (now (piece .entry)) (r .desk)) ⌝ }
+{
+    let mut desk = d;
+    let mut out = room();
+    let mut at: usize = 0;
+    while at < piece.len() {
+        let fed = desk::feed(desk, &piece[at..], &mut out);
+        let n = fed.wrote;
+        let after = fed.desk;
+        desk = after;
+        if !io::write_all(STDOUT_FILENO, &out[..n]) {
+            return Served { desk, stop: true };
+        }
+        if desk.is_over() {
+            return Served { desk, stop: true };
+        }
+        at += fed.used;
+    }
+    Served { desk, stop: false }
+}
+
+// The input is at its end.
+fn close(d: Desk)
+    requires { ⌜ Sound d × (d .number + 1 < 2 ^ 63) ⌝ }
+{
+    let mut out = room();
+    let n = desk::finish(d, &mut out);
+    io::write_all(STDOUT_FILENO, &out[..n]);
+}
+
+// One read. An error of reading ends the program.
+fn turn(d: Desk) -> Served
+    requires { ⌜ Sound d × (d .number + 4096 < 2 ^ 63) ⌝ }
+    ensures { λ r. ⌜ (r .stop ≡ false → Sound (r .desk) × (r .desk .number ≤ d .number + 4096)) ⌝ }
+{
+    let mut buf = io::buffer();
+    let got = libc::read(STDIN_FILENO, &mut buf);
+    if got < 0 {
+        return Served {
+            desk: d,
+            stop: true,
+        };
+    }
+    let n = io::count(got, &buf);
+    if n == 0 {
+        close(d);
+        return Served {
+            desk: d,
+            stop: true,
+        };
+    }
+    serve(d, &buf[..n])
+}
+
+// A proved loop has to end, and nothing says that the input does: the turns are counted down, from a number that no run uses up.
+fn main() {
+    let mut desk = Desk::new();
+    let mut turns = 1_000_000_000_000_000u64;
+    while turns > 0 {
+        let s = turn(desk);
+        if s.stop {
+            return;
+        }
+        let after = s.desk;
+        desk = after;
+        turns -= 1;
+    }
+}

@@ -1,0 +1,305 @@
+// Runs the known sheets, times and amounts of 01 that are not shown of the definitions, and prints what the library answers; the file `stdout` has
+// what is to come. 000's first function is there with its own six lines beside ours.
+use boxes;
+use libc::STDOUT_FILENO;
+use listing;
+use lists;
+use reading;
+use sheet::Sheet;
+use times;
+use writing;
+ghost use mathlib.Core.Path.{_≡_};
+ghost use Prim.Native.Nat.{_≤_};
+ghost use lib.ListN.{length};
+
+const ONE_TO_SIX: [u8; 6] = [1, 2, 3, 4, 5, 6];
+
+const ONE_TO_THREE: [u8; 3] = [1, 2, 3];
+
+const ALL: [u8; 32] = [
+    0,
+    1,
+    2,
+    3,
+    4,
+    5,
+    6,
+    7,
+    8,
+    9,
+    10,
+    11,
+    12,
+    13,
+    14,
+    15,
+    16,
+    17,
+    18,
+    19,
+    20,
+    21,
+    22,
+    23,
+    24,
+    25,
+    26,
+    27,
+    28,
+    29,
+    30,
+    31,
+];
+
+// 000's first function, and its own lines (intervals 17, 36, 37, 23, 24 and 15 there) in list order.
+const FUNCTION: [u8; 15] = [5, 6, 7, 10, 11, 12, 13, 18, 19, 22, 23, 26, 27, 28, 30];
+
+const ITS_LINES: [u8; 6] = [64, 176, 194, 198, 86, 120];
+
+fn word(text: &[u8]) {
+    io::write_all(STDOUT_FILENO, text);
+}
+
+fn number(n: u64) {
+    word(b" ");
+    io::print_decimal(STDOUT_FILENO, n);
+}
+
+fn wide(c: u8) -> usize
+    ensures { λ r. ⌜ r ≡ c ⌝ }
+{
+    c as usize
+}
+
+fn print_numbers(list: &[u8]) {
+    let mut i: usize = 0;
+    while i < list.len() {
+        number(wide(list[i]) as u64);
+        i += 1;
+    }
+}
+
+// The sheet of m marks with these combinations in its class.
+fn with_class(m: usize, class: &[u8]) -> Sheet {
+    let opened = Sheet::open(m);
+    let mut sheet = opened.sheet;
+    let mut i: usize = 0;
+    while i < class.len() {
+        let entered = sheet.enter(wide(class[i]));
+        let next = entered.sheet;
+        sheet = next;
+        i += 1;
+    }
+    sheet
+}
+
+fn is_among(class: &[u8], c: usize) -> bool {
+    let mut i: usize = 0;
+    while i < class.len() {
+        if wide(class[i]) == c {
+            return true;
+        }
+        i += 1;
+    }
+    false
+}
+
+// How many lines contain the combination c.
+fn lines_with(m: usize, list: &[u8], c: usize) -> usize
+    requires { ⌜ m ≤ 8 ⌝ }
+{
+    let mut n: usize = 0;
+    let mut i: usize = 0;
+    while i < list.len() {
+        if boxes::contains(m, wide(list[i]), c) {
+            n += 1;
+        }
+        i += 1;
+    }
+    n
+}
+
+// Whether each combination of the class is in exactly one line, and no other is in any.
+fn is_parted(m: usize, class: &[u8], list: &[u8]) -> bool
+    requires { ⌜ m ≤ 8 ⌝ }
+{
+    let n = boxes::power2(m);
+    for c in 0..n {
+        let k = lines_with(m, list, c);
+        if is_among(class, c) {
+            if k != 1 {
+                return false;
+            }
+        } else {
+            if k != 0 {
+                return false;
+            }
+        }
+    }
+    true
+}
+
+fn print_list(m: usize, class: &[u8], list: &[u8])
+    requires { ⌜ m ≤ 8 ⌝ }
+{
+    print_numbers(list);
+    if is_parted(m, class, list) {
+        word(b" fits\n");
+    } else {
+        word(b" does not fit\n");
+    }
+}
+
+// An area for a list.
+fn list_area() -> [u8; 32]
+    ensures { λ r. ⌜ 32 ≡ length r ⌝ }
+{
+    [0u8; 32]
+}
+
+// The list of a known sheet.
+fn known_sheet(m: usize, class: &[u8])
+    requires { ⌜ m ≤ 8 ⌝ }
+{
+    let mut area = list_area();
+    let listed = listing::list(with_class(m, class), &mut area);
+    let n = listed.value;
+    word(b"list");
+    if listed.number != 0 {
+        number(listed.number);
+        word(b" refused\n");
+        return;
+    }
+    if n <= 32 {
+        let k = n as usize;
+        print_list(m, class, &area[..k]);
+    }
+}
+
+// 000's own lines, and which of the two lists is before the other.
+fn document() {
+    let class = FUNCTION;
+    let theirs = ITS_LINES;
+    word(b"000");
+    print_list(5, &class, &theirs);
+    let mut area = list_area();
+    let listed = listing::list(with_class(5, &class), &mut area);
+    let n = listed.value;
+    if n <= 32 {
+        let k = n as usize;
+        word(b"before");
+        print_numbers(lists::before(&theirs, &area[..k]));
+        word(b"\n");
+    }
+}
+
+// An area for a stored form.
+fn form_area() -> [u8; 64]
+    ensures { λ r. ⌜ 64 ≡ length r ⌝ }
+{
+    [0u8; 64]
+}
+
+fn print_bytes(bytes: &[u8]) {
+    let mut i: usize = 0;
+    while i < bytes.len() {
+        word(b" ");
+        io::print_hex(STDOUT_FILENO, wide(bytes[i]) as u64, 2);
+        i += 1;
+    }
+    word(b"\n");
+}
+
+// The sheet of the desk program's sample.
+fn sample() -> Sheet {
+    let class = ONE_TO_THREE;
+    let a = with_class(2, &class).receive(3, 605);
+    let s = a.sheet;
+    let b = s.receive(1, 150);
+    let t = b.sheet;
+    let c = t.withdraw(3, 5);
+    let u = c.sheet;
+    let d = u.receive(0, 240);
+    let v = d.sheet;
+    v
+}
+
+// The sample's stored bytes, and those of the sheet that is read from them.
+fn stored() {
+    let mut area = form_area();
+    let wrote = writing::write(sample(), &mut area);
+    let n = wrote.value;
+    if n <= 64 {
+        let k = n as usize;
+        word(b"stored");
+        print_bytes(&area[..k]);
+        let read = reading::read(&area[..k]);
+        let sheet = read.sheet;
+        let mut again = form_area();
+        let w = writing::write(sheet, &mut again);
+        let j = w.value;
+        if j <= 64 {
+            let e = j as usize;
+            word(b"read back");
+            number(read.number);
+            print_bytes(&again[..e]);
+        }
+    }
+}
+
+// A text that is no running time: the answer and the place.
+fn time() {
+    let r = times::answer(b"012:30");
+    word(b"time 012:30");
+    number(r.answer);
+    number(r.place);
+    word(b"\n");
+}
+
+fn amount(d: u64) {
+    let opened = Sheet::open(1);
+    let sheet = opened.sheet;
+    let r = sheet.receive(1, d);
+    word(b"amount");
+    number(d);
+    number(r.number);
+    word(b"\n");
+}
+
+// Receipts that end at 4,000,000,000 seconds, and one second more.
+fn limit() {
+    let opened = Sheet::open(1);
+    let mut sheet = opened.sheet;
+    let mut i: u64 = 0;
+    while i < 111_114 {
+        let r = sheet.receive(1, 35_999);
+        let next = r.sheet;
+        sheet = next;
+        i += 1;
+    }
+    let last = sheet.receive(1, 7_114);
+    word(b"held 4000000000");
+    number(last.number);
+    let full = last.sheet;
+    let more = full.receive(1, 1);
+    word(b"\nheld 4000000001");
+    number(more.number);
+    word(b"\n");
+}
+
+fn main() {
+    let one_to_six = ONE_TO_SIX;
+    let all = ALL;
+    let function = FUNCTION;
+    known_sheet(3, &one_to_six);
+    known_sheet(5, &all);
+    known_sheet(5, &function);
+    document();
+    stored();
+    time();
+    amount(0);
+    amount(1);
+    amount(35_999);
+    amount(36_000);
+    limit();
+}

@@ -1,0 +1,134 @@
+-- Every line asks for something, and line 1 says something: the readers' steps, followed to the end.
+use Prim.Native.Nat.{ℕ, zero, suc, _+_, _-_, _*_, _<_, _≤_}
+use mathlib.Core.Path.{_≡_, refl, ap, subst}
+use mathlib.Core.List.{List, [], _∷_}
+use native.Mathlib.Omega.{arith}
+use lib.ListN.{length, getD, take, drop}
+use Rattle.boxes.proofs.Cases.{below-or, same-or}
+use Rattle.times.specs.declared.Time.{Time}
+use Rattle.times.specs.declared.Time.the-variants.{Value, Fault}
+use Rattle.times.specs.declared.Lead.{Lead}
+use Rattle.times.specs.declared.Lead.the-variants.{Colon, Stop}
+use Rattle.times.specs.Texts.{ascii, After, Behind, Readable}
+use Rattle.times.specs.Places.{Begins, Reads}
+use Rattle.times.specs.Parts.{Led, moved, Follows}
+use Rattle.times.proofs.Behinds.{after-end, after-more, behind-none, behind-tens, behind-one, behind-ones, behind-two}
+use Rattle.times.proofs.Fronts.{SoFar, far-none, far-step, stop-at, colon-at, end-at, led-stop, led-on}
+use Rattle.lines.specs.declared.Order.{Order}
+use Rattle.lines.specs.declared.Order.the-variants.{End, Unreadable}
+use Rattle.lines.specs.declared.First.{First}
+use Rattle.lines.specs.declared.First.the-variants.{Marks, NotMarks}
+use Rattle.lines.specs.declared.Pattern.{Pattern}
+use Rattle.lines.specs.declared.Pattern.the-variants.{Combination, NoPattern}
+use Rattle.lines.specs.declared.Amount.{Amount}
+use Rattle.lines.specs.declared.Amount.the-variants.{Seconds, NoAmount}
+use Rattle.lines.specs.Words.{Asked, said, ends, Opens, Patterned, Amounts, enterOf, leaveOf, receiveOf, withdrawOf}
+use Rattle.lines.proofs.Patterns.{Front, front-none, front-more, pattern-long, pattern-other, pattern-read}
+use Rattle.lines.proofs.Orders.{amount-short, amount-unspaced, amount-unnamed, amount-untimed, amount-read, asked-in, asked-out, asked-recv, asked-gone, end-alone, asked-nothing, opens-other, opens-long, opens-byte, opens-marks}
+
+-- a line begins with a verb or does not
+begins-or : {P : Type 0} (verb line : List ℕ) → (Begins verb line → P) → ((Begins verb line → ⊥) → P) → P
+begins-or [] line good bad = good (line, refl)
+begins-or (v ∷ verb) [] good bad = bad (λ b. let z = ap length (b .1) in omega arith)
+begins-or (v ∷ verb) (x ∷ line) good bad =
+    same-or x v
+    (λ e. begins-or verb line (λ b. good (b .0, cc (b .1))) (λ n. bad (λ b. n (b .0, cc (b .1)))))
+    (λ n. bad (λ b. n (cc (b .1))))
+
+-- a byte is in a range or is not
+range-or : {P : Type 0} (a z c : ℕ) → ((a ≤ c) × (c ≤ z) → P) → (((a ≤ c) × (c ≤ z) → ⊥) → P) → P
+range-or a z c good bad = below-or c a (λ l. bad (λ w. omega (arith, w .0))) (λ l. below-or z c (λ k. bad (λ w. omega (arith, w .1))) (λ k. good (l, k)))
+
+-- running times
+
+after-decided : (n x : ℕ) (l : List ℕ) → (r : Time) × Reads (After n x) l r
+after-decided n x l = same-or (length l) 0 (λ e. (Value (n * 60 + x), after-end n x l e)) (λ e. (Fault 0, after-more n x l (omega arith)))
+
+behind-decided : (n : ℕ) (l : List ℕ) → (r : Time) × Reads (Behind n) l r
+behind-decided n l =
+    same-or (length l) 0 (λ e. (Fault 0, behind-none n l e)) (λ e.
+    range-or 48 53 (getD l 0 0)
+    (λ t. same-or (length l) 1 (λ f. (Fault 1, behind-one n l f t)) (λ f.
+    range-or 48 57 (getD l 1 0)
+    (λ o. let x = (getD l 0 0 - 48) * 10 + (getD l 1 0 - 48) in
+    let w = after-decided n x (drop 2 l) in
+    (moved 2 (w .0), behind-two n l x (omega arith) t o refl (w .1)))
+    (λ o. (Fault 1, behind-ones n l (omega arith) t o))))
+    (λ t. (Fault 0, behind-tens n l (omega arith) t)))
+
+follows-or : {P : Type 0} (i n c : ℕ) → (Follows i n c → P) → ((Follows i n c → ⊥) → P) → P
+follows-or i n c good bad =
+    range-or 48 57 c
+    (λ d. below-or 599 (n * 10 + (c - 48)) (λ l. bad (λ f. omega (arith, f .small))) (λ l.
+    below-or 0 n
+    (λ k. good (record { digit = d; plain = λ z. k; small = l }))
+    (λ k. below-or 0 i (λ j. bad (λ f. omega (arith, f .plain j))) (λ j. good (record { digit = d; plain = λ z. absurd (omega arith); small = l })))))
+    (λ d. bad (λ f. d (f .digit)))
+
+led-decided : (t : List ℕ) (k i n : ℕ) → i + k ≡ length t → SoFar (take i t) n → (r : Lead) × Led t r
+led-decided t zero i n h f = (Stop i, end-at t i n f (omega arith))
+led-decided t (suc k) i n h f =
+    let l : i < length t = omega arith in
+    same-or (getD t i 0) 58
+    (λ e. below-or 0 i (λ j. (Colon n (i + 1), colon-at t i n f l e j))
+    (λ j. (Stop i, stop-at t i n f l (λ q z. omega arith) (λ w. omega (arith, w .digit)))))
+    (λ e. follows-or i n (getD t i 0)
+    (λ w. led-decided t k (i + 1) (n * 10 + (getD t i 0 - 48)) (omega arith) (far-step t i n f l w))
+    (λ w. (Stop i, stop-at t i n f l (λ q z. e q) w)))
+
+time-decided : (t : List ℕ) → (r : Time) × Reads Readable t r
+time-decided t = go (led-decided t (length t) 0 0 (omega arith) far-none)
+  where
+    go : (r : Lead) × Led t r → (r : Time) × Reads Readable t r
+    go (Stop p, l) = (Fault p, led-stop l)
+    go (Colon n k, l) = let w = behind-decided n (drop k t) in (moved k (w .0), led-on t n k l (w .1))
+
+-- parts behind a verb
+
+pattern-from : (m : ℕ) (part : List ℕ) (k i n : ℕ) → i + k ≡ m → length part ≡ m → Front part i n → (p : Pattern) × Patterned m part p
+pattern-from m part zero i n h e f = let q : i ≡ m = omega arith in (Combination n, pattern-read m part n e (subst (λ (x : ℕ). Front part x n) q f))
+pattern-from m part (suc k) i n h e f =
+    range-or 48 49 (getD part i 0)
+    (λ w. pattern-from m part k (i + 1) (n * 2 + (getD part i 0 - 48)) (omega arith) e
+    (front-more part i n (getD part i 0 - 48) f (omega arith) (omega (arith, w .1)) (omega (arith, w .0))))
+    (λ w. (NoPattern, pattern-other m part i (omega arith) w))
+
+pattern-decided : (m : ℕ) (part : List ℕ) → (p : Pattern) × Patterned m part p
+pattern-decided m part =
+    same-or (length part) m (λ e. pattern-from m part m 0 0 (omega arith) e (front-none part)) (λ e. (NoPattern, pattern-long m part e))
+
+amount-decided : (m : ℕ) (part : List ℕ) → (a : Amount) × Amounts m part a
+amount-decided m part =
+    below-or m (length part)
+    (λ l. same-or (getD part m 0) 32
+    (λ s. go l s (pattern-decided m (take m part)) (time-decided (take (length part - (m + 1)) (drop (m + 1) part))))
+    (λ s. (NoAmount, amount-unspaced m part s)))
+    (λ l. (NoAmount, amount-short m part l))
+  where
+    go : m < length part → getD part m 0 ≡ 32 → (p : Pattern) × Patterned m (take m part) p
+        → (r : Time) × Reads Readable (take (length part - (m + 1)) (drop (m + 1) part)) r → (a : Amount) × Amounts m part a
+    go l s (NoPattern, p) t = (NoAmount, amount-unnamed m part p)
+    go l s (Combination c, p) (Fault q, t) = (NoAmount, amount-untimed m part t)
+    go l s (Combination c, p) (Value d, t) = (Seconds c d, amount-read m part l s p t)
+
+-- lines
+
+pub asked-decided : (m : ℕ) (line : List ℕ) → (o : Order) × Asked m line o
+asked-decided m line =
+    begins-or (ascii "in ") line (λ b. let w = pattern-decided m (b .0) in (enterOf (w .0), asked-in (b .1) (w .1))) (λ i.
+    begins-or (ascii "out ") line (λ b. let w = pattern-decided m (b .0) in (leaveOf (w .0), asked-out (b .1) (w .1))) (λ o.
+    begins-or (ascii "recv ") line (λ b. let w = amount-decided m (b .0) in (receiveOf (w .0), asked-recv (b .1) (w .1))) (λ r.
+    begins-or (ascii "gone ") line (λ b. let w = amount-decided m (b .0) in (withdrawOf (w .0), asked-gone (b .1) (w .1))) (λ g.
+    begins-or (ascii "end") line
+    (λ b. same-or (length line) 3 (λ e. (End, said (ends (end-alone m line b e)))) (λ e. (Unreadable, asked-nothing m line i o r g (λ q. e (ap length q)))))
+    (λ e. (Unreadable, asked-nothing m line i o r g (λ q. e ([], q))))))))
+
+pub opens-decided : (line : List ℕ) → (f : First) × Opens line f
+opens-decided line =
+    begins-or (ascii "marks ") line
+    (λ b. same-or (length line) 7
+    (λ h. range-or 48 57 (getD line 6 0)
+    (λ w. (Marks (getD line 6 0 - 48), opens-marks line (getD line 6 0 - 48) b h (omega (arith, w .1)) (omega (arith, w .0))))
+    (λ w. (NotMarks, opens-byte line w)))
+    (λ h. (NotMarks, opens-long line h)))
+    (λ b. (NotMarks, opens-other line b))

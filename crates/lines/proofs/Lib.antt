@@ -1,0 +1,6 @@
+pub mod Verbs
+pub mod Patterns
+pub mod Orders
+pub mod Settled
+pub mod Decided
+pub mod Cuts

@@ -1,0 +1,58 @@
+-- The first i bytes are alike (`Alike`); a byte that is missing or another denies the beginning.
+use Prim.Native.Nat.{_-_}
+use mathlib.Core.Path.{refl}
+use native.Mathlib.Omega.{arith}
+use lib.ListN.{length}
+use Rattle.lines.proofs.Verbs.{Alike, alike-none, alike-more, alike-all, begun-long, begun-byte}
+use Rattle.boxes.proofs.Cases.{decided-yes, decided-no}
+use Rattle.lines.proofs.begins.Statement.{statement}
+use Rattle.lines.proofs.begins.Tie as tie
+
+abbrev Inv-loop : tie.InvT-loop
+Inv-loop line verb i₀ i = Alike line verb i
+
+abbrev μ-loop : tie.MeasureT-loop
+μ-loop line verb i₀ i = length verb - i
+
+loop-holds : tie.Need-loop-holds Inv-loop μ-loop
+loop-holds c = alike-none _ _
+
+returns : tie.Need-returns Inv-loop μ-loop
+returns c = let a = c .before .before .before .args in decided-no refl (λ b. omega (arith, begun-long (a .verb .now) (a .line .now) b))
+
+shared-slice-read-if2 : tie.Need-shared-slice-read-if2 Inv-loop μ-loop
+shared-slice-read-if2 c = omega arith
+
+shared-slice-read-if2-2 : tie.Need-shared-slice-read-if2-2 Inv-loop μ-loop
+shared-slice-read-if2-2 c = omega arith
+
+returns-2 : tie.Need-returns-2 Inv-loop μ-loop
+returns-2 c = decided-no refl (λ b. c .if2 .taken (begun-byte (c .before .before .before .before .before .before .args .verb .now) (c .before .before .before .before .before .before .args .line .now) (c .before .before .before .before .before .loop .i) b (omega arith)))
+
+add-i : tie.Need-add-i Inv-loop μ-loop
+add-i c = omega arith
+
+loop-less : tie.Need-loop-less Inv-loop μ-loop
+loop-less c = omega arith
+
+loop-again : tie.Need-loop-again Inv-loop μ-loop
+loop-again c = alike-more _ _ _ (c .before .before .before .before .before .loop .inv) (omega arith) (omega arith) (c .if2 .left)
+
+returns-3 : tie.Need-returns-3 Inv-loop μ-loop
+returns-3 c = decided-yes refl (alike-all _ _ _ (c .before .loop .inv) (omega arith))
+
+pub begins-spec : {M : Type 1} → statement M
+begins-spec =
+    tie.close
+    (tie.spec
+    Inv-loop
+    μ-loop
+    loop-holds
+    returns
+    shared-slice-read-if2
+    shared-slice-read-if2-2
+    returns-2
+    add-i
+    loop-less
+    loop-again
+    returns-3)
