@@ -1,4 +1,5 @@
 # make            build/libvault.a, and build/holdings: proved, then compiled (for x86-64)
+# make sample     the desk program on a sample session
 # make check      everything: the gate proves all from nothing, then the tests run on an archive made of what was just proved
 # make test       only the tests outside the proofs, on build/libvault.a (made first if it is missing or older than its sources)
 # make bench      the library's times, as ratios to plain C in the same run
@@ -10,10 +11,8 @@ CALLS ?= 400000
 SEED ?= 1
 
 sources := $(wildcard crates/*/src/*.rt crates/*/specs/*.antt crates.txt)
-program := $(wildcard crates/holdings/src/main.rt)
-manual := $(wildcard man/holdings.1)
 
-all: build/libvault.a $(if $(program),build/holdings)
+all: build/libvault.a build/holdings
 
 # rt proves what changed since it was last proved, and builds only what it proved. After the gate nothing has changed: the layers below are
 # taken as they are, and `vault` alone, which is thin, is checked again, since rt makes an archive in the run that proves it.
@@ -26,6 +25,9 @@ build/holdings: $(sources)
 	@mkdir -p build
 	rt check holdings
 	cp target/bin/holdings $@
+
+sample: build/holdings
+	@tools/x86 run build/holdings <crates/holdings/stdin
 
 check:
 	@tests/gate
@@ -46,19 +48,15 @@ install: all
 	install -m 644 build/libvault.a $(DESTDIR)$(PREFIX)/lib/libvault.a
 	sed -e 's|@prefix@|$(PREFIX)|' -e 's|@version@|$(VERSION)|' vault.pc.in >build/vault.pc
 	install -m 644 build/vault.pc $(DESTDIR)$(PREFIX)/lib/pkgconfig/vault.pc
-ifneq ($(program),)
 	install -d $(DESTDIR)$(PREFIX)/bin
 	install -m 755 build/holdings $(DESTDIR)$(PREFIX)/bin/holdings
-endif
-ifneq ($(manual),)
 	install -d $(DESTDIR)$(PREFIX)/share/man/man1
 	install -m 644 man/holdings.1 $(DESTDIR)$(PREFIX)/share/man/man1/holdings.1
-endif
 
 clean:
 	rm -rf build target
 
-.PHONY: all check test bench sanitize install clean
+.PHONY: all sample check test bench sanitize install clean
 
 # two runs of rt at once would be in each other's way
 .NOTPARALLEL:
