@@ -142,3 +142,40 @@ sumIn-bound m b x f l h =
     let all : sum (2 ^ m) (λ c. only (contains m b c) 1 * x) ≡ 2 ^ freeCount m b * x =
     sum-mul (2 ^ m) (λ c. only (contains m b c) 1) x ∙ ap (λ (n : ℕ). n * x) (sumIn-count m b l) in
     omega (arith, sumIn-mono m b f (λ c. x) h)
+
+-- a box with a free mark is its two halves at that mark: the digit 2 made 0, and made 1
+
+third-up : (i b : ℕ) → b / 3 ^ suc i ≡ b / 3 / 3 ^ i
+third-up i b = ap (λ (p : ℕ). b / p) (pow-succ' 3 i) ∙ sym (div-div-eq-div-mul b 3 (3 ^ i))
+
+-- its number is at least 2 at that mark
+pub free-le : (i b : ℕ) → b / 3 ^ i % 3 ≡ 2 → 3 ^ i * 2 ≤ b
+free-le i b e =
+    let two : 2 ≤ b / 3 ^ i = omega arith in
+    omega (arith, mul-le-mul-right (3 ^ i) two, div-mul-le-self b (3 ^ i))
+
+pub sumIn-halves : (m i b : ℕ) (f : ℕ → ℕ) → i < m → b / 3 ^ i % 3 ≡ 2 → sumIn m b f ≡ sumIn m (b - 3 ^ i * 2) f + sumIn m (b - 3 ^ i) f
+unfolding agrees
+sumIn-halves zero i b f l e = absurd (omega arith)
+sumIn-halves (suc m) zero b f l e =
+    let q : b % 3 ≡ 2 = rw div-one at e in
+    let e0 : (b - 2) % 3 ≡ 0 = omega arith in
+    let d0 : (b - 2) / 3 ≡ b / 3 = omega arith in
+    let e1 : (b - 1) % 3 ≡ 1 = omega arith in
+    let d1 : (b - 1) / 3 ≡ b / 3 = omega arith in
+    simp (sumIn-step, q, e0, d0, e1, d1) (omega arith)
+sumIn-halves (suc m) (suc i) b f l e =
+    let q : b / 3 / 3 ^ i % 3 ≡ 2 = ap (λ (n : ℕ). n % 3) (sym (third-up i b)) ∙ e in
+    let p = pow-suc 3 i in
+    let le : 3 ^ i * 2 ≤ b / 3 = free-le i (b / 3) q in
+    let e0 : (b - 3 ^ i * 3 * 2) % 3 ≡ b % 3 = omega arith in
+    let d0 : (b - 3 ^ i * 3 * 2) / 3 ≡ b / 3 - 3 ^ i * 2 = omega arith in
+    let e1 : (b - 3 ^ i * 3) % 3 ≡ b % 3 = omega arith in
+    let d1 : (b - 3 ^ i * 3) / 3 ≡ b / 3 - 3 ^ i = omega arith in
+    rw p
+    (simp (sumIn-step, e0, d0, e1, d1)
+    (omega (
+      arith,
+      only-plus (agrees (b % 3) 0) _ _ _ (sumIn-halves m i (b / 3) (λ c. f (c * 2)) (omega arith) q),
+      only-plus (agrees (b % 3) 1) _ _ _ (sumIn-halves m i (b / 3) (λ c. f (c * 2 + 1)) (omega arith) q),
+    )))
