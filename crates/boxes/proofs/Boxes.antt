@@ -10,7 +10,7 @@ use lib.Dec.{eqb}
 use borrow.Author.Tests.{eq-eqb, eqb-true}
 use Rattle.boxes.specs.Sums.{sum, only}
 use Rattle.boxes.specs.Boxes.{agrees, contains, sumIn, freeCount, allFree}
-use Rattle.boxes.proofs.Cases.{if, digit, and-left, and-right}
+use Rattle.ground.proofs.Cases.{if, digit, and-left, and-right}
 use Rattle.boxes.proofs.Sums.{sum-ext, sum-zero, sum-le, sum-term, sum-change, sum-pairs, sum-mul, sum-only, only-le, only-mono, only-zero, only-plus, only-times}
 
 -- what contains something is a box, and what is contained a combination

@@ -14,7 +14,7 @@ use lib.Pow.{pow-mono, shr-shr}
 use borrow.Author.Tests.{eq-eqb, ne-eqb, eqb-true}
 use Rattle.boxes.specs.Boxes.{agrees, contains, sumIn, freeMarks, freeCount, lowest, through, single, allFree}
 use Rattle.boxes.specs.Sums.{only}
-use Rattle.boxes.proofs.Cases.{below-or, same-or, mark, digit, and-left, and-right, eqb-pair}
+use Rattle.ground.proofs.Cases.{below-or, same-or, mark, digit, and-left, and-right, eqb-pair}
 use Rattle.boxes.proofs.Sums.{sum-change, sum-zero}
 
 -- digits and the rest of a box through c

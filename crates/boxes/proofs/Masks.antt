@@ -9,7 +9,7 @@ use lib.Bits.{bitAnd, and-step, and-mask}
 use lib.Pow.{pow-mono}
 use borrow.Author.Tests.{eq-eqb}
 use Rattle.boxes.specs.Boxes.{agrees, contains, freeMarks, lowest}
-use Rattle.boxes.proofs.Cases.{mark, digit, and-left, and-right, eqb-pair}
+use Rattle.ground.proofs.Cases.{mark, digit, and-left, and-right, eqb-pair}
 use Rattle.boxes.proofs.Numbers.{power-next, digit-put, digits-done}
 use Rattle.boxes.proofs.Choices.{freeMarks-lt, free-digit}
 

@@ -13,9 +13,10 @@ use Rattle.times.specs.Places.{Reads, value}
 use Rattle.times.proofs.Fronts.{numeral-digit, numeral-more, readable}
 use Rattle.times.proofs.Settled.{read-settled}
 use Rattle.print.specs.Texts.{decimal, clock}
-use Rattle.print.specs.Areas.{Wrote}
-use Rattle.print.proofs.Areas.{wrote-there}
-use Rattle.print.proofs.Digits.{by, decimal-small, decimal-step}
+use Rattle.ground.specs.Areas.{Wrote}
+use Rattle.ground.proofs.Areas.{wrote-there}
+use Rattle.ground.proofs.Cases.{if}
+use Rattle.print.proofs.Digits.{decimal-small, decimal-step}
 
 small : (n : ℕ) → n < 10 → Numeral (decimal n) n
 small n h =
@@ -25,7 +26,7 @@ small n h =
 numeral-below : (k n : ℕ) → n ≤ k → Numeral (decimal n) n
 numeral-below zero n l = small n (omega arith)
 numeral-below (suc k) n l =
-    by (ltb n 10)
+    if (ltb n 10)
     (λ e. small n (ltb-true n 10 e))
     (λ e.
     let h = ltb-false n 10 e in

@@ -7,7 +7,7 @@ use mathlib.Core.List.{List}
 use lib.Dec.{eqb, leb}
 use borrow.Author.Tests.{lt-leb}
 use Rattle.boxes.specs.Sums.{sum}
-use Rattle.boxes.proofs.Cases.{if}
+use Rattle.ground.proofs.Cases.{if}
 use Rattle.sheet.specs.Limits.{mostMarks, mostHeld, marksOk, amountOk}
 use Rattle.sheet.specs.Record.{Record}
 use Rattle.lines.specs.declared.Order.{Order}

@@ -2,7 +2,7 @@
 use Prim.Native.Nat.{ℕ, _+_}
 use mathlib.Core.Path.{_≡_, refl, subst}
 use mathlib.Core.List.{List, [], _∷_, _++_}
-use Rattle.boxes.proofs.Cases.{if, same-or}
+use Rattle.ground.proofs.Cases.{if, same-or}
 use Rattle.lists.proofs.Model.{found}
 use Rattle.sheet.specs.Record.{Record}
 use Rattle.histories.specs.Histories.{Good}

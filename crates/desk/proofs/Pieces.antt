@@ -8,8 +8,8 @@ use lib.Dec.{eqb}
 use lib.ListN.{length, getD, take, drop, drop-of-length-le, length-drop}
 use lib.Seq.{take-suc, take-all, take-add, drop-cons}
 use borrow.Author.Tests.{eq-eqb, ne-eqb}
-use Rattle.boxes.proofs.Cases.{if}
-use Rattle.print.proofs.Areas.{wrote-none}
+use Rattle.ground.proofs.Cases.{if}
+use Rattle.ground.proofs.Areas.{wrote-none}
 use Rattle.sheet.specs.Record.{Record}
 use Rattle.histories.specs.Histories.{Good}
 use Rattle.lines.specs.declared.Order.the-variants.{Unreadable}

@@ -9,11 +9,11 @@ use lib.ListN.{length, getD, take, drop, length-append}
 use lib.Seq.{take-at}
 use Rattle.boxes.specs.Boxes.{sumIn}
 use Rattle.boxes.specs.Sums.{sum, only}
-use Rattle.boxes.proofs.Cases.{if}
+use Rattle.ground.proofs.Cases.{if}
 use Rattle.boxes.proofs.Sums.{sum-le}
 use Rattle.lists.proofs.Exist.{at-most}
 use Rattle.tables.specs.Tables.{entry}
-use Rattle.print.specs.Areas.{Wrote}
+use Rattle.ground.specs.Areas.{Wrote}
 use Rattle.sheet.specs.Limits.{mostMarks, entries}
 use Rattle.sheet.specs.Record.{Record, sheetOf}
 use Rattle.sheet.specs.Sound.{sizeOf}

@@ -10,7 +10,8 @@ use Rattle.boxes.specs.Sums.{sum}
 use Rattle.lists.specs.Lists.{FirstShortest}
 use Rattle.lists.specs.Known.{among, table, Shown}
 use Rattle.lists.proofs.Known.{known}
-use Rattle.times.specs.Texts.{ascii, Readable}
+use Rattle.ground.specs.Texts.{ascii}
+use Rattle.times.specs.Texts.{Readable}
 use Rattle.print.specs.Texts.{decimal, decimalIn, clock, pattern}
 use Rattle.clock.proofs.ReadsBack.{clock-readable}
 use Rattle.sheet.specs.Limits.{marksOk, amountOk}

@@ -4,8 +4,8 @@ use mathlib.Core.Path.{_≡_, refl, sym, ap, ap₂, _∙_, subst}
 use mathlib.Core.Bool.{false, true≢false}
 use mathlib.Core.List.{List, [], _++_}
 use Rattle.lists.proofs.First.{unique}
-use Rattle.print.proofs.Areas.{wrote-settled}
-use Rattle.print.specs.Areas.{Wrote}
+use Rattle.ground.proofs.Areas.{wrote-settled}
+use Rattle.ground.specs.Areas.{Wrote}
 use Rattle.sheet.specs.Record.{Record}
 use Rattle.lines.specs.declared.Order.{Order}
 use Rattle.lines.specs.declared.Order.the-variants.{End}

@@ -7,9 +7,9 @@ use native.Mathlib.Omega.{arith}
 use lib.ListN.{length, take}
 use lib.Seq.{append-snoc}
 use borrow.Author.Tests.{eq-eqb, ne-eqb}
-use Rattle.boxes.proofs.Cases.{if}
-use Rattle.print.specs.Areas.{Wrote}
-use Rattle.print.proofs.Areas.{wrote-text, wrote-none, wrote-then}
+use Rattle.ground.proofs.Cases.{if}
+use Rattle.ground.specs.Areas.{Wrote}
+use Rattle.ground.proofs.Areas.{wrote-text, wrote-none, wrote-then}
 use Rattle.sheet.specs.Limits.{mostMarks, entries, marksOk}
 use Rattle.sheet.specs.Record.{Record, sheetOf, opened}
 use Rattle.sheet.specs.Calls.{openOf}

@@ -7,10 +7,10 @@ use native.Mathlib.Omega.{arith}
 use lib.ListN.{length, getD, take, length-append}
 use lib.Seq.{take-suc}
 use Rattle.lists.specs.Lists.{Boxes}
-use Rattle.times.specs.Texts.{ascii}
+use Rattle.ground.specs.Texts.{ascii}
 use Rattle.print.specs.Texts.{decimal, clock, pattern}
-use Rattle.print.specs.Areas.{Wrote}
-use Rattle.print.proofs.Areas.{wrote-then}
+use Rattle.ground.specs.Areas.{Wrote}
+use Rattle.ground.proofs.Areas.{wrote-then}
 use Rattle.print.proofs.Digits.{number-room, time-room, pattern-length}
 use Rattle.desk.specs.Prints.{refusal, heads, boxLine, boxLines, lastLine}
 

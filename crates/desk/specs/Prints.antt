@@ -8,7 +8,7 @@ use lib.Dec.{eqb}
 use lib.ListN.{length}
 use Rattle.boxes.specs.Boxes.{sumIn}
 use Rattle.lists.specs.Lists.{FirstShortest}
-use Rattle.times.specs.Texts.{ascii}
+use Rattle.ground.specs.Texts.{ascii}
 use Rattle.print.specs.Texts.{decimal, clock, pattern}
 use Rattle.sheet.specs.Limits.{mostMarks, marksOk}
 use Rattle.sheet.specs.Record.{Record, opened}

@@ -6,7 +6,7 @@ use mathlib.Core.Bool.{Bool, true, false, cond}
 use mathlib.Core.List.{List, [], _∷_, _++_}
 use lib.Dec.{eqb}
 use lib.ListN.{take}
-use Rattle.print.specs.Areas.{Wrote}
+use Rattle.ground.specs.Areas.{Wrote}
 use Rattle.sheet.specs.Limits.{entries}
 use Rattle.sheet.specs.Record.{Record, sheetOf, opened}
 use Rattle.sheet.specs.declared.Sheet.{Sheet}

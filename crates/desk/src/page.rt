@@ -3,9 +3,9 @@ ghost use mathlib.Core.Path.{_≡_};
 ghost use Prim.Native.Nat.{ℕ, _+_, _*_, _≤_, _<_};
 ghost use mathlib.Core.List.{_++_};
 ghost use lib.ListN.{length, getD};
-ghost use Rattle.times.specs.Texts.{ascii};
+ghost use Rattle.ground.specs.Texts.{ascii};
 ghost use Rattle.print.specs.Texts.{decimal};
-ghost use Rattle.print.specs.Areas.{Wrote};
+ghost use Rattle.ground.specs.Areas.{Wrote};
 ghost use Rattle.tables.specs.Tables.{entry};
 ghost use Rattle.sheet.specs.Limits.{entries};
 ghost use Rattle.sheet.specs.Record.{Record, sheetOf};
@@ -21,11 +21,11 @@ fn put_pair(out: &mut [u8], at: usize, word: &[u8], x: u64, between: &[u8], y: u
     requires { ⌜ at + length (now word) + length (now between) + 41 ≤ length (now out) ⌝ }
     ensures { λ r. ⌜ Wrote (now (out .entry)) at (now (word .entry) ++ decimal x ++ now (between .entry) ++ decimal y ++ ascii "\n") r (now (out .exit)) ⌝ }
 {
-    let a = print::put(out, at, word);
+    let a = ground::put(out, at, word);
     let b = print::put_number(out, a, x);
-    let c = print::put(out, b, between);
+    let c = ground::put(out, b, between);
     let d = print::put_number(out, c, y);
-    print::put_byte(out, d, b'\n')
+    ground::put_byte(out, d, b'\n')
 }
 
 // `refused K A`.
@@ -61,21 +61,9 @@ fn put_line(out: &mut [u8], at: usize, m: usize, b: usize, seconds: u64) -> usiz
     ensures { λ r. ⌜ Wrote (now (out .entry)) at (boxLine m b seconds) r (now (out .exit)) ⌝ }
 {
     let x = print::put_pattern(out, at, m, b);
-    let y = print::put_byte(out, x, b' ');
+    let y = ground::put_byte(out, x, b' ');
     let z = print::put_time(out, y, seconds);
-    print::put_byte(out, z, b'\n')
-}
-
-fn number_of(b: u8) -> usize
-    ensures { λ r. ⌜ r ≡ b ⌝ }
-{
-    b as usize
-}
-
-fn wide(x: u32) -> u64
-    ensures { λ r. ⌜ r ≡ x ⌝ }
-{
-    x as u64
+    ground::put_byte(out, z, b'\n')
 }
 
 // The lines of the list, with what the table keeps of each.
@@ -86,8 +74,8 @@ fn put_lines(out: &mut [u8], at: usize, m: usize, held: &[u32], list: &[u8]) -> 
     let mut next = at;
     let mut i: usize = 0;
     while i < list.len() {
-        let b = number_of(list[i]);
-        next = put_line(out, next, m, b, wide(held[b]));
+        let b = ground::byte(list[i]);
+        next = put_line(out, next, m, b, ground::wide(held[b]));
         i += 1;
     }
     next
@@ -98,9 +86,9 @@ fn put_total(out: &mut [u8], at: usize, seconds: u64) -> usize
     requires { ⌜ at + 32 ≤ length (now out) ⌝ }
     ensures { λ r. ⌜ Wrote (now (out .entry)) at (lastLine seconds) r (now (out .exit)) ⌝ }
 {
-    let a = print::put(out, at, b"total ");
+    let a = ground::put(out, at, b"total ");
     let b = print::put_time(out, a, seconds);
-    print::put_byte(out, b, b'\n')
+    ground::put_byte(out, b, b'\n')
 }
 
 // An area for the list.

@@ -2,7 +2,7 @@
 ghost use mathlib.Core.Path.{_≡_};
 ghost use Prim.Native.Nat.{_+_, _≤_, _<_, _^_};
 ghost use lib.ListN.{length};
-ghost use Rattle.print.specs.Areas.{Wrote};
+ghost use Rattle.ground.specs.Areas.{Wrote};
 ghost use Rattle.lines.specs.Taken.{rowOf, Fit};
 ghost use Rattle.desk.specs.Prints.{RowAsks};
 ghost use Rattle.desk.specs.States.{State, deskAt, start, At, Sound, cutOff, told, obeyedOf, isOver, FirstAnswered, EndedBy, FedBy, FinishedBy};

@@ -10,7 +10,7 @@ use borrow.Author.Tests.{le-ltb}
 use Rattle.boxes.specs.Boxes.{sumIn}
 use Rattle.boxes.specs.Sums.{only}
 use Rattle.boxes.proofs.Boxes.{sumIn-nothing}
-use Rattle.boxes.proofs.Cases.{if, below-or}
+use Rattle.ground.proofs.Cases.{if, below-or}
 use Rattle.boxes.proofs.Sums.{sum-ext}
 use Rattle.tables.specs.Tables.{entry, own}
 use Rattle.tables.proofs.Entries.{afresh-entry, afresh-own}

@@ -6,7 +6,7 @@ use native.Mathlib.Omega.{arith}
 use lib.Dec.{eqb}
 use borrow.Author.Tests.{eqb-true, leb-true, eq-eqb, ne-eqb}
 use Rattle.boxes.specs.Sums.{sum, only}
-use Rattle.boxes.proofs.Cases.{if, clash, same-or, and-left}
+use Rattle.ground.proofs.Cases.{if, clash, same-or, and-left}
 use Rattle.boxes.proofs.Sums.{sum-change, sum-le, sum-zero}
 use Rattle.tables.proofs.Changes.{plus}
 use Rattle.sheet.specs.Limits.{mostMarks, mostHeld, marksOk, amountOk}

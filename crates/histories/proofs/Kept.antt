@@ -8,7 +8,7 @@ use native.Mathlib.Omega.{arith}
 use lib.Dec.{eqb, leb}
 use borrow.Author.Tests.{leb-true, not-false, eq-eqb, ne-eqb, le-leb, lt-leb}
 use Rattle.boxes.specs.Sums.{only}
-use Rattle.boxes.proofs.Cases.{if, below-or, same-or}
+use Rattle.ground.proofs.Cases.{if, below-or, same-or}
 use Rattle.tables.specs.Tables.{afresh}
 use Rattle.tables.proofs.Changes.{plus, minus, raised-afresh, lowered-afresh}
 use Rattle.tables.proofs.Entries.{afresh-ext}

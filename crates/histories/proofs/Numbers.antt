@@ -9,7 +9,7 @@ use borrow.Author.Tests.{le-leb, lt-leb, leb-true, leb-false, eq-eqb, ne-eqb}
 use Rattle.boxes.specs.Boxes.{contains, sumIn, single, allFree, freeCount}
 use Rattle.boxes.specs.Sums.{sum, only}
 use Rattle.boxes.proofs.Boxes.{contains-box, contains-all, sumIn-term, sumIn-le-all, sumIn-all, sumIn-bound, sumIn-change}
-use Rattle.boxes.proofs.Cases.{if, clash, below-or, same-or}
+use Rattle.ground.proofs.Cases.{if, clash, below-or, same-or}
 use Rattle.boxes.proofs.Choices.{through-contains}
 use Rattle.tables.specs.Tables.{entry, own, afresh, touched}
 use Rattle.tables.proofs.Changes.{plus}

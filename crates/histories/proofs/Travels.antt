@@ -6,7 +6,7 @@ use mathlib.Core.List.{List, _∷_}
 use native.Mathlib.Omega.{arith}
 use lib.ListN.{length}
 use borrow.Author.Tests.{lt-ltb, le-ltb}
-use Rattle.boxes.proofs.Cases.{clash, below-or}
+use Rattle.ground.proofs.Cases.{clash, below-or}
 use Rattle.sheet.specs.Limits.{mostMarks, entries}
 use Rattle.sheet.specs.Record.{Record, sheetOf}
 use Rattle.sheet.specs.Sound.{recordOf}

@@ -65,16 +65,10 @@ fn number(n: u64) {
     io::print_decimal(STDOUT_FILENO, n);
 }
 
-fn wide(c: u8) -> usize
-    ensures { λ r. ⌜ r ≡ c ⌝ }
-{
-    c as usize
-}
-
 fn print_numbers(list: &[u8]) {
     let mut i: usize = 0;
     while i < list.len() {
-        number(wide(list[i]) as u64);
+        number(ground::byte(list[i]) as u64);
         i += 1;
     }
 }
@@ -85,7 +79,7 @@ fn with_class(m: usize, class: &[u8]) -> Sheet {
     let mut sheet = opened.sheet;
     let mut i: usize = 0;
     while i < class.len() {
-        let entered = sheet.enter(wide(class[i]));
+        let entered = sheet.enter(ground::byte(class[i]));
         let next = entered.sheet;
         sheet = next;
         i += 1;
@@ -96,7 +90,7 @@ fn with_class(m: usize, class: &[u8]) -> Sheet {
 fn is_among(class: &[u8], c: usize) -> bool {
     let mut i: usize = 0;
     while i < class.len() {
-        if wide(class[i]) == c {
+        if ground::byte(class[i]) == c {
             return true;
         }
         i += 1;
@@ -111,7 +105,7 @@ fn lines_with(m: usize, list: &[u8], c: usize) -> usize
     let mut n: usize = 0;
     let mut i: usize = 0;
     while i < list.len() {
-        if boxes::contains(m, wide(list[i]), c) {
+        if boxes::contains(m, ground::byte(list[i]), c) {
             n += 1;
         }
         i += 1;
@@ -204,7 +198,7 @@ fn print_bytes(bytes: &[u8]) {
     let mut i: usize = 0;
     while i < bytes.len() {
         word(b" ");
-        io::print_hex(STDOUT_FILENO, wide(bytes[i]) as u64, 2);
+        io::print_hex(STDOUT_FILENO, ground::byte(bytes[i]) as u64, 2);
         i += 1;
     }
     word(b"\n");

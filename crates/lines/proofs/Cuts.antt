@@ -9,7 +9,7 @@ use lib.Dec.{leb, ltb, eqb}
 use lib.ListN.{length, take, length-append, length-set}
 use lib.Seq.{take-suc-set, take-all, length-take-le}
 use borrow.Author.Tests.{le-leb, lt-leb, ltb-true, ltb-false, leb-false, ne-eqb}
-use Rattle.boxes.proofs.Cases.{if}
+use Rattle.ground.proofs.Cases.{if}
 use Rattle.lines.specs.Rows.{Row, whole, spoiled, judged, isNone}
 use Rattle.lines.specs.Taken.{rowOf, empty, pushed, Fit}
 use Rattle.lines.specs.declared.line.Line.{Line}

@@ -4,13 +4,15 @@ use mathlib.Core.Path.{_≡_, refl, ap, subst}
 use mathlib.Core.List.{List, [], _∷_}
 use native.Mathlib.Omega.{arith}
 use lib.ListN.{length, getD, take, drop}
-use Rattle.boxes.proofs.Cases.{below-or, same-or}
+use Rattle.ground.proofs.Cases.{below-or, same-or}
 use Rattle.times.specs.declared.Time.{Time}
 use Rattle.times.specs.declared.Time.the-variants.{Value, Fault}
 use Rattle.times.specs.declared.Lead.{Lead}
 use Rattle.times.specs.declared.Lead.the-variants.{Colon, Stop}
-use Rattle.times.specs.Texts.{ascii, After, Behind, Readable}
-use Rattle.times.specs.Places.{Begins, Reads}
+use Rattle.ground.specs.Texts.{ascii}
+use Rattle.times.specs.Texts.{After, Behind, Readable}
+use Rattle.ground.specs.Texts.{Begins}
+use Rattle.times.specs.Places.{Reads}
 use Rattle.times.specs.Parts.{Led, moved, Follows}
 use Rattle.times.proofs.Behinds.{after-end, after-more, behind-none, behind-tens, behind-one, behind-ones, behind-two}
 use Rattle.times.proofs.Fronts.{SoFar, far-none, far-step, stop-at, colon-at, end-at, led-stop, led-on}

@@ -7,8 +7,10 @@ use native.Mathlib.Omega.{arith}
 use lib.ListN.{length, getD, take, drop, length-append, length-drop}
 use lib.Seq.{take-all, take-at, drop-at, getD-at, split-at, drop-append-seam, append-snoc}
 use Rattle.times.specs.declared.Time.the-variants.{Value, Fault}
-use Rattle.times.specs.Texts.{ascii, Readable}
-use Rattle.times.specs.Places.{Begins, Reads, value, fault}
+use Rattle.ground.specs.Texts.{ascii}
+use Rattle.times.specs.Texts.{Readable}
+use Rattle.ground.specs.Texts.{Begins}
+use Rattle.times.specs.Places.{Reads, value, fault}
 use Rattle.lines.specs.declared.Order.{Order}
 use Rattle.lines.specs.declared.Order.the-variants.{Enter, Leave, Receive, Withdraw, End, Unreadable}
 use Rattle.lines.specs.declared.First.the-variants.{Marks, NotMarks}

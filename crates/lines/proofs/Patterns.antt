@@ -7,7 +7,7 @@ use native.Mathlib.Numerals.{add-one}
 use native.Mathlib.Omega.{arith}
 use lib.ListN.{length, getD, take, length-append, List·getD-append}
 use lib.Seq.{take-suc, take-all, take-at, getD-at}
-use Rattle.boxes.proofs.Cases.{below-or}
+use Rattle.ground.proofs.Cases.{below-or}
 use Rattle.lines.specs.declared.Pattern.the-variants.{Combination, NoPattern}
 use Rattle.lines.specs.Words.{written, Patterned, combination}
 

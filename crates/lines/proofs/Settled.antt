@@ -5,7 +5,8 @@ use mathlib.Core.List.{List, []}
 use native.Mathlib.Omega.{arith}
 use lib.ListN.{getD}
 use Rattle.times.specs.declared.Time.the-variants.{Value}
-use Rattle.times.specs.Texts.{ascii, Readable}
+use Rattle.ground.specs.Texts.{ascii}
+use Rattle.times.specs.Texts.{Readable}
 use Rattle.times.specs.Places.{value}
 use Rattle.times.proofs.Settled.{read-settled}
 use Rattle.lines.specs.declared.Order.{Order}

@@ -6,7 +6,7 @@ use native.Mathlib.Numerals.{add-one}
 use native.Mathlib.Omega.{arith}
 use lib.ListN.{length, getD, take, drop, length-append, length-drop, take-append-drop, List·getD-append}
 use lib.Seq.{take-suc, take-all, drop-at}
-use Rattle.times.specs.Places.{Begins}
+use Rattle.ground.specs.Texts.{Begins}
 
 -- the first i bytes of the line are those of the verb
 pub record Alike (line verb : List ℕ) (i : ℕ) : Type 0 where

@@ -2,7 +2,8 @@
 use Prim.Native.Nat.{ℕ, zero, suc, _+_, _/_, _%_, _^_, _<_, _≤_}
 use mathlib.Core.Path.{_≡_}
 use mathlib.Core.List.{List, [], _∷_, _++_}
-use Rattle.times.specs.Texts.{ascii, Readable}
+use Rattle.ground.specs.Texts.{ascii}
+use Rattle.times.specs.Texts.{Readable}
 use Rattle.lines.specs.declared.Order.{Order}
 use Rattle.lines.specs.declared.Order.the-variants.{Enter, Leave, Receive, Withdraw, End, Unreadable}
 use Rattle.lines.specs.declared.First.{First}

@@ -1,8 +1,8 @@
 // The desk's lines: what the bytes of a line ask for. The reader takes the verb and hands on the part of the text behind it.
 ghost use mathlib.Core.Path.{_≡_};
 ghost use Prim.Native.Nat.{_≤_};
-ghost use Rattle.boxes.specs.Decides.{Decides};
-ghost use Rattle.times.specs.Places.{Begins};
+ghost use Rattle.ground.specs.Decides.{Decides};
+ghost use Rattle.ground.specs.Texts.{Begins};
 ghost use Rattle.lines.specs.Words.{Patterned, Amounts, Opens, Asked, enterOf, leaveOf, receiveOf, withdrawOf};
 
 mod line;
@@ -53,12 +53,6 @@ fn begins(line: &[u8], verb: &[u8]) -> bool
     true
 }
 
-fn wide(c: u8) -> usize
-    ensures { λ r. ⌜ r ≡ c ⌝ }
-{
-    c as usize
-}
-
 // P: m characters 0 or 1, highest mark first.
 fn read_pattern(part: &[u8], m: usize) -> Pattern
     requires { ⌜ m ≤ 8 ⌝ }
@@ -77,7 +71,7 @@ fn read_pattern(part: &[u8], m: usize) -> Pattern
         if 49 < c {
             return Pattern::NoPattern;
         }
-        n = n * 2 + (wide(c) - 48);
+        n = n * 2 + (ground::byte(c) - 48);
         i += 1;
     }
     Pattern::Combination(n)
@@ -184,5 +178,5 @@ pub fn read_marks(line: &[u8]) -> First
     if 57 < c {
         return First::NotMarks;
     }
-    First::Marks(wide(c) - 48)
+    First::Marks(ground::byte(c) - 48)
 }

@@ -6,7 +6,7 @@ use native.Mathlib.Nat.{pow-suc}
 use native.Mathlib.Omega.{arith}
 use lib.Dec.{eqb, ltb}
 use borrow.Author.Tests.{eq-eqb, lt-ltb, le-ltb}
-use Rattle.boxes.proofs.Cases.{below-or, same-or}
+use Rattle.ground.proofs.Cases.{below-or, same-or}
 use Rattle.boxes.proofs.Numbers.{power-next}
 use mathlib.Core.List.{List}
 use Rattle.tables.specs.Tables.{own}

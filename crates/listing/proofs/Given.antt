@@ -6,7 +6,7 @@ use mathlib.Core.List.{List, _++_}
 use native.Mathlib.Omega.{arith}
 use lib.ListN.{length, take, drop, length-take, length-append}
 use lib.Seq.{take-append-le}
-use Rattle.print.specs.Areas.{laid, Wrote}
+use Rattle.ground.specs.Areas.{laid, Wrote}
 use Rattle.lists.specs.Lists.{Fits, FirstShortest}
 use Rattle.seek.specs.Answer.{has, Sought}
 use Rattle.seek.specs.declared.Found.{Found}

@@ -5,7 +5,7 @@ use mathlib.Core.Bool.{Bool}
 use mathlib.Core.List.{List, [], _∷_}
 use Rattle.boxes.specs.Boxes.{sumIn}
 use Rattle.boxes.specs.Sums.{sumOver, only}
-use Rattle.boxes.proofs.Cases.{if, clash}
+use Rattle.ground.proofs.Cases.{if, clash}
 use Rattle.boxes.proofs.Sums.{sum-ext}
 use Rattle.lists.specs.Lists.{Fits, Boxes, covered}
 use Rattle.lists.proofs.Count.{lines-sum}

@@ -49,7 +49,7 @@ fn searched(m: usize, outside: &[u32], area: &mut [u8]) -> Value
     let n = boxes::power2(m);
     match seek::shortest(m, class, class, &mut own[..n]) {
         Found::Boxes(k) => {
-            print::put(area, 0, &own[..k]);
+            ground::put(area, 0, &own[..k]);
             Value {
                 number: 0,
                 value: k as u64,
@@ -82,12 +82,6 @@ pub fn list(sheet: Sheet, area: &mut [u8]) -> Value
     searched(m, &outside, area)
 }
 
-fn wide(x: u32) -> u64
-    ensures { λ r. ⌜ (r ≡ x) × (r < 2 ^ 32) ⌝ }
-{
-    x as u64
-}
-
 // What the combination c adds to the class total: its seconds, if it is in the class.
 fn seconds_of(m: usize, c: usize, outside: &[u32], held: &[u32]) -> u64
     requires { ⌜ (m ≤ 5) × (c < 2 ^ m) × (entries ≤ length (now outside)) × (entries ≤ length (now held)) ⌝ }
@@ -97,7 +91,7 @@ fn seconds_of(m: usize, c: usize, outside: &[u32], held: &[u32]) -> u64
     if outside[at] != 0 {
         return 0;
     }
-    wide(held[at])
+    ground::wide(held[at])
 }
 
 // The seconds held in the class of m marks.

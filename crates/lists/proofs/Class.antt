@@ -6,7 +6,7 @@ use mathlib.Core.List.{List, [], _∷_}
 use Prim.Native.Nat.{ℕ, _<_}
 use native.Mathlib.Omega.{arith}
 use Rattle.boxes.specs.Boxes.{contains, lowest}
-use Rattle.boxes.proofs.Cases.{if}
+use Rattle.ground.proofs.Cases.{if}
 use Rattle.boxes.proofs.Boxes.{contains-combination}
 use Rattle.boxes.proofs.Choices.{lowest-contained, lowest-least}
 use Rattle.lists.specs.Lists.{lowestNeeded, Ahead, Rising}

@@ -8,7 +8,7 @@ use native.Mathlib.Numerals.{add-one}
 use native.Mathlib.Omega.{arith}
 use lib.ListN.{length, drop, getD, drop-of-length-le}
 use lib.Seq.{drop-cons}
-use Rattle.boxes.proofs.Cases.{below-or, same-or}
+use Rattle.ground.proofs.Cases.{below-or, same-or}
 use Rattle.lists.specs.Lists.{Smaller, Before}
 use Rattle.lists.specs.Compared.{HandsBack}
 

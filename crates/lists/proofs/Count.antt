@@ -7,7 +7,7 @@ use Prim.Native.Nat.{ℕ, _+_, _^_, _≤_}
 use native.Mathlib.Omega.{arith}
 use Rattle.boxes.specs.Sums.{sum, sumOver, only}
 use Rattle.boxes.specs.Boxes.{contains, sumIn}
-use Rattle.boxes.proofs.Cases.{if}
+use Rattle.ground.proofs.Cases.{if}
 use Rattle.boxes.proofs.Sums.{sum-ext, sum-exchange}
 use Rattle.lists.specs.Lists.{Boxes, covered, Apart, Fits}
 

@@ -10,7 +10,7 @@ use lib.Dec.{eqb, ltb, lit<}
 use lib.ListN.{length}
 use borrow.Author.Tests.{eq-eqb, ne-eqb, eqb-true, lt-ltb, le-ltb}
 use Rattle.boxes.specs.Boxes.{agrees, contains, through, single}
-use Rattle.boxes.proofs.Cases.{if, below-or, same-or, and-left, and-right}
+use Rattle.ground.proofs.Cases.{if, below-or, same-or, and-left, and-right}
 use Rattle.boxes.proofs.Choices.{through-lt, single-contains}
 use Rattle.lists.specs.Lists.{Fits, FirstShortest}
 use Rattle.lists.proofs.Count.{clash}

@@ -8,7 +8,7 @@ use lib.ListN.{length}
 use borrow.Author.Tests.{not-true}
 use Rattle.boxes.specs.Boxes.{contains}
 use Rattle.boxes.specs.Sums.{sumOver}
-use Rattle.boxes.proofs.Cases.{if, below-or, and-left, and-right}
+use Rattle.ground.proofs.Cases.{if, below-or, and-left, and-right}
 use Rattle.lists.specs.Lists.{Boxes, covered, Apart, Fits, firstFrom, lowestOf}
 use Rattle.lists.proofs.Count.{clash, times, covered-in, covered-out, counted, fits-counted}
 

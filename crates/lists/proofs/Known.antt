@@ -7,7 +7,7 @@ use Prim.Native.Nat.{ℕ, _+_, _^_, _<_}
 use lib.Dec.{eqb, ltb}
 use borrow.Author.Tests.{eqb-true, ltb-true}
 use Rattle.boxes.specs.Boxes.{agrees, contains, through}
-use Rattle.boxes.proofs.Cases.{if, and-left, and-right}
+use Rattle.ground.proofs.Cases.{if, and-left, and-right}
 use Rattle.lists.specs.Lists.{firstFrom, FirstShortest}
 use Rattle.lists.specs.Known.{among, Row, table, Shown}
 use Rattle.lists.proofs.Lay.{Small}

@@ -9,7 +9,7 @@ use native.Mathlib.Nat.{not-suc-le-zero}
 use native.Mathlib.Omega.{arith}
 use lib.ListN.{length}
 use Rattle.boxes.specs.Boxes.{contains, through, freeMarks}
-use Rattle.boxes.proofs.Cases.{below-or}
+use Rattle.ground.proofs.Cases.{below-or}
 use Rattle.boxes.proofs.Choices.{through-lt, through-rises, through-contains, through-free, freeMarks-lt}
 use Rattle.lists.specs.Lists.{covered, Fits, lowestOf, Rising, Smaller, Before, FirstShortest}
 use Rattle.lists.proofs.Fit.{less, Inside, lowest-true, lowest-le, fits-tail, fits-cons, fits-head, fits-none, fronted}

@@ -11,7 +11,7 @@ use lib.Dec.{ltb}
 use lib.ListN.{length}
 use borrow.Author.Tests.{lt-ltb, le-ltb, not-true}
 use Rattle.boxes.specs.Boxes.{contains, through}
-use Rattle.boxes.proofs.Cases.{if, below-or, and-left, and-right}
+use Rattle.ground.proofs.Cases.{if, below-or, and-left, and-right}
 use Rattle.boxes.proofs.Boxes.{contains-combination}
 use Rattle.boxes.proofs.Choices.{through-lt}
 use Rattle.lists.specs.Lists.{Fits, lowestOf, FirstShortest}

@@ -5,7 +5,7 @@ use mathlib.Core.List.{List, [], _∷_}
 use Prim.Native.Nat.{ℕ, _^_, _<_, _≤_}
 use native.Mathlib.Omega.{arith}
 use Rattle.boxes.specs.Boxes.{contains}
-use Rattle.boxes.proofs.Cases.{if, below-or, and-left, and-right}
+use Rattle.ground.proofs.Cases.{if, below-or, and-left, and-right}
 use Rattle.lists.specs.Lists.{covered, Apart, Fits, lowestOf, lowestNeeded, Ahead, Rising}
 use Rattle.lists.proofs.Count.{clash, covered-in, covered-out}
 use Rattle.lists.proofs.Fit.{less, lowest-true, lowest-le}

@@ -9,7 +9,7 @@ use Prim.Native.Nat.{ℕ}
 use lib.ListN.{length}
 use borrow.Author.Tests.{eqb-true}
 use Rattle.boxes.specs.Boxes.{contains, lowest, single}
-use Rattle.boxes.proofs.Cases.{if}
+use Rattle.ground.proofs.Cases.{if}
 use Rattle.boxes.proofs.Choices.{through-lt, through-contains, single-contains, lowest-contained}
 use Rattle.lists.specs.Lists.{Boxes, covered, Apart, Fits, FirstShortest}
 use Rattle.lists.specs.Pottosin.{Independent, Maximal, SmallestMaximal}

@@ -1,18 +1,14 @@
 -- The recursion of `decimal`, freed of its bound, and how long the texts are.
 use Prim.Native.Nat.{ℕ, zero, suc, _+_, _/_, _%_, _^_, _≤_, _<_}
 use mathlib.Core.Path.{_≡_, refl, sym, ap, _∙_}
-use mathlib.Core.Bool.{Bool, true, false}
 use mathlib.Core.List.{List, [], _∷_, _++_}
 use native.Mathlib.Nat.{pow-suc, pow-zero}
 use native.Mathlib.Omega.{arith}
 use lib.Dec.{ltb}
 use lib.ListN.{length, length-append}
 use borrow.Author.Tests.{ltb-true, ltb-false, lt-ltb, le-ltb}
+use Rattle.ground.proofs.Cases.{if}
 use Rattle.print.specs.Texts.{decimalIn, decimal, clock, sign, pattern}
-
-pub by : {P : Type 0} (x : Bool) → (x ≡ true → P) → (x ≡ false → P) → P
-by true a b = a refl
-by false a b = b refl
 
 in-small : (k n : ℕ) → n < 10 → decimalIn k n ≡ (48 + n) ∷ []
 unfolding decimalIn
@@ -28,7 +24,7 @@ same-bound : (k j n : ℕ) → n ≤ k → n ≤ j → decimalIn k n ≡ decimal
 same-bound zero j n h l = in-small zero n (omega arith) ∙ sym (in-small j n (omega arith))
 same-bound (suc k) zero n h l = in-small (suc k) n (omega arith) ∙ sym (in-small zero n (omega arith))
 same-bound (suc k) (suc j) n h l =
-    by (ltb n 10)
+    if (ltb n 10)
     (λ e. let q = ltb-true n 10 e in in-small (suc k) n q ∙ sym (in-small (suc j) n q))
     (λ e.
     let q = ltb-false n 10 e in
@@ -52,7 +48,7 @@ pub decimal-length : (k n : ℕ) → 1 ≤ k → n < 10 ^ k → length (decimal 
 decimal-length zero n h l = absurd (omega arith)
 decimal-length (suc zero) n h l = omega (arith, pow-suc 10 0, pow-zero 10, ap length (decimal-small n (omega (arith, pow-suc 10 0, pow-zero 10))))
 decimal-length (suc (suc k)) n h l =
-    by (ltb n 10) (λ e. omega (arith, ap length (decimal-small n (ltb-true n 10 e))))
+    if (ltb n 10) (λ e. omega (arith, ap length (decimal-small n (ltb-true n 10 e))))
     (λ e. omega (arith, decimal-more n (ltb-false n 10 e), decimal-length (suc k) (n / 10) (omega arith) (omega (arith, pow-suc 10 (suc k)))))
 
 pub clock-length : (s : ℕ) → length (clock s) ≡ length (decimal (s / 60)) + 3

@@ -1,3 +1,2 @@
-pub mod Areas
 pub mod Digits
 pub mod Writing

@@ -6,8 +6,8 @@ use native.Mathlib.Numerals.{unary-clauses}
 use native.Mathlib.Omega.{arith}
 use lib.ListN.{length, length-append}
 use Rattle.print.specs.Texts.{decimal, clock, sign, pattern}
-use Rattle.print.specs.Areas.{Wrote}
-use Rattle.print.proofs.Areas.{wrote-then, wrote-text}
+use Rattle.ground.specs.Areas.{Wrote}
+use Rattle.ground.proofs.Areas.{wrote-then, wrote-text}
 use Rattle.print.proofs.Digits.{decimal-small, decimal-step, decimal-more, pattern-length}
 
 pub number-first : (n : ℕ) {d : ℕ} {out o₁ : List ℕ} {at r₁ : ℕ} → n < 10 → d ≡ 48 + n → Wrote out at (d ∷ []) r₁ o₁ → Wrote out at (decimal n) r₁ o₁

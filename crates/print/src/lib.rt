@@ -4,28 +4,7 @@ ghost use mathlib.Core.List.{[], _∷_};
 ghost use Prim.Native.Nat.{_+_, _≤_, _<_};
 ghost use lib.ListN.{length};
 ghost use Rattle.print.specs.Texts.{decimal, clock, sign, pattern};
-ghost use Rattle.print.specs.Areas.{Wrote};
-
-pub fn put_byte(out: &mut [u8], at: usize, c: u8) -> usize
-    requires { ⌜ at < length (now out) ⌝ }
-    ensures { λ r. ⌜ Wrote (now (out .entry)) at (c ∷ []) r (now (out .exit)) ⌝ }
-{
-    out[at] = c;
-    at + 1
-}
-
-pub fn put(out: &mut [u8], at: usize, text: &[u8]) -> usize
-    requires { ⌜ at + length (now text) ≤ length (now out) ⌝ }
-    ensures { λ r. ⌜ Wrote (now (out .entry)) at (now (text .entry)) r (now (out .exit)) ⌝ }
-{
-    let mut next = at;
-    let mut i: usize = 0;
-    while i < text.len() {
-        next = put_byte(out, next, text[i]);
-        i += 1;
-    }
-    next
-}
+ghost use Rattle.ground.specs.Areas.{Wrote};
 
 fn digit(d: u64) -> u8
     requires { ⌜ d < 10 ⌝ }
@@ -40,10 +19,10 @@ pub fn put_number(out: &mut [u8], at: usize, n: u64) -> usize
     ensures { λ r. ⌜ Wrote (now (out .entry)) at (decimal n) r (now (out .exit)) ⌝ }
 {
     if n < 10 {
-        return put_byte(out, at, digit(n));
+        return ground::put_byte(out, at, digit(n));
     }
     let next = put_number(out, at, n / 10);
-    put_byte(out, next, digit(n % 10))
+    ground::put_byte(out, next, digit(n % 10))
 }
 
 // Seconds as minutes, a colon and two digits, at most 21 bytes, and 11 up to 4,000,000,000 seconds.
@@ -52,9 +31,9 @@ pub fn put_time(out: &mut [u8], at: usize, seconds: u64) -> usize
     ensures { λ r. ⌜ Wrote (now (out .entry)) at (clock seconds) r (now (out .exit)) ⌝ }
 {
     let colon = put_number(out, at, seconds / 60);
-    let tens = put_byte(out, colon, b':');
-    let ones = put_byte(out, tens, digit(seconds % 60 / 10));
-    put_byte(out, ones, digit(seconds % 60 % 10))
+    let tens = ground::put_byte(out, colon, b':');
+    let ones = ground::put_byte(out, tens, digit(seconds % 60 / 10));
+    ground::put_byte(out, ones, digit(seconds % 60 % 10))
 }
 
 fn sign(d: usize) -> u8
@@ -76,5 +55,5 @@ pub fn put_pattern(out: &mut [u8], at: usize, m: usize, b: usize) -> usize
         return at;
     }
     let next = put_pattern(out, at, m - 1, b / 3);
-    put_byte(out, next, sign(b % 3))
+    ground::put_byte(out, next, sign(b % 3))
 }

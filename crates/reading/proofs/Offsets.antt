@@ -10,8 +10,8 @@ use lib.ListN.{length, getD, take, drop, length-drop, drop-of-length-le}
 use lib.Seq.{drop-cons, drop-drop}
 use lib.Dec.{leb, ltb}
 use borrow.Author.Tests.{leb-true, ltb-true, le-leb, lt-leb, lt-ltb, le-ltb}
-use Rattle.boxes.specs.Decides.{Decides}
-use Rattle.boxes.proofs.Cases.{below-or, clash, decided-no}
+use Rattle.ground.specs.Decides.{Decides}
+use Rattle.ground.proofs.Cases.{below-or, clash, decided-no}
 use Rattle.sheet.specs.Limits.{mostMarks, mostHeld}
 use Rattle.sheet.specs.Record.{Record}
 use Rattle.stored.specs.Fields.{number, Due, width, Next, due, end, wrong, judge, Outcome, good, refused, Run, done, over, early, faulty}

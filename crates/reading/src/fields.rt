@@ -2,7 +2,7 @@
 ghost use mathlib.Core.Path.{_≡_};
 ghost use Prim.Native.Nat.{_+_, _^_, _≤_, _<_};
 ghost use lib.ListN.{length};
-ghost use Rattle.boxes.specs.Decides.{Decides};
+ghost use Rattle.ground.specs.Decides.{Decides};
 ghost use Rattle.reading.specs.Parts.{numberAt, Stands, CountRead};
 
 pub fn wide(b: u8) -> usize

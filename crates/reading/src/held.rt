@@ -1,7 +1,7 @@
 // The held section: a count, and the held combinations with their seconds.
 ghost use Prim.Native.Nat.{_+_, _≤_};
 ghost use lib.ListN.{length};
-ghost use Rattle.boxes.specs.Decides.{Decides};
+ghost use Rattle.ground.specs.Decides.{Decides};
 ghost use Rattle.sheet.specs.Limits.{mostHeld};
 ghost use Rattle.reading.specs.Parts.{HeldRead, HeldListRead};
 use crate::Section;

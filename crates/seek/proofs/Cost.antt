@@ -12,7 +12,7 @@ use lib.ListN.{length, set, replicate, getD-replicate}
 use lib.Seq.{getD-set-same, getD-set-other}
 use Rattle.boxes.specs.Sums.{sum, sumOver, only}
 use Rattle.boxes.specs.Boxes.{contains}
-use Rattle.boxes.proofs.Cases.{if, below-or}
+use Rattle.ground.proofs.Cases.{if, below-or}
 use Rattle.boxes.proofs.Sums.{sum-ext, sum-add, sum-le}
 use Rattle.lists.specs.Lists.{covered, Fits}
 use Rattle.lists.specs.Pottosin.{Interval, Independent}

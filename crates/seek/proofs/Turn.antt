@@ -13,7 +13,7 @@ use lib.Pow.{pow-mono}
 use lib.Seq.{take-append-le, length-take-le}
 use Rattle.boxes.specs.Sums.{sumOver}
 use Rattle.boxes.specs.Boxes.{through}
-use Rattle.boxes.proofs.Cases.{below-or}
+use Rattle.ground.proofs.Cases.{below-or}
 use Rattle.lists.specs.Lists.{lowestOf, FirstShortest}
 use Rattle.lists.proofs.Count.{clash}
 use Rattle.lists.proofs.Fit.{less, Inside, fits-cons}

@@ -121,12 +121,6 @@ struct Certificate {
     minus: u64,
 }
 
-fn wide(x: u32) -> u64
-    ensures { λ r. ⌜ (r ≡ x) × (r < 2 ^ 32) ⌝ }
-{
-    x as u64
-}
-
 // The weight of a set of combinations.
 fn weight_of(s: u32, w: &[u32; 32]) -> u64
     ensures { λ r. ⌜ (r ≡ weight (has s) (entry (now (w .entry)))) × (r < 2 ^ 37) ⌝ }
@@ -135,7 +129,7 @@ fn weight_of(s: u32, w: &[u32; 32]) -> u64
     let mut c: usize = 0;
     while c < 32 {
         if (s >> c) % 2 == 1 {
-            total = total + wide(w[c]);
+            total = total + ground::wide(w[c]);
         }
         c += 1;
     }

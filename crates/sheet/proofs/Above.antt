@@ -9,7 +9,7 @@ use lib.ListN.{length}
 use borrow.Author.Tests.{ne-eqb}
 use Rattle.boxes.specs.Boxes.{contains, single, freeCount}
 use Rattle.boxes.proofs.Boxes.{contains-nothing, contains-box}
-use Rattle.boxes.proofs.Cases.{same-or}
+use Rattle.ground.proofs.Cases.{same-or}
 use Rattle.boxes.proofs.Choices.{through-lt}
 use Rattle.tables.specs.Tables.{entry, raised, lowered}
 use Rattle.boxes.specs.Sums.{only}

@@ -4,7 +4,7 @@ use mathlib.Core.Path.{_≡_, refl, sym, ap, subst}
 use mathlib.Core.Bool.{Bool, true, false, cond}
 use native.Mathlib.Omega.{arith}
 use borrow.Author.Tests.{ne-eqb}
-use Rattle.boxes.proofs.Cases.{same-or}
+use Rattle.ground.proofs.Cases.{same-or}
 use Rattle.tables.proofs.Changes.{raised-differ, lowered-differ}
 use Rattle.sheet.specs.declared.Sheet.{Sheet}
 use Rattle.sheet.specs.Calls.{answered, changed, changeOf, received, receiveOf, withdrawn, withdrawOf}

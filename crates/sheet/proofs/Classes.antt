@@ -10,7 +10,7 @@ use borrow.Author.Tests.{lt-ltb}
 use Rattle.boxes.specs.Boxes.{allFree}
 use Rattle.boxes.specs.Sums.{sum, only}
 use Rattle.boxes.proofs.Boxes.{sumIn-all}
-use Rattle.boxes.proofs.Cases.{mark}
+use Rattle.ground.proofs.Cases.{mark}
 use Rattle.boxes.proofs.Sums.{sum-ext, sum-add, sum-ones}
 use Rattle.tables.specs.Tables.{entry, own}
 use Rattle.sheet.specs.Sound.{ClassSound, classOf, sizeOf}

@@ -8,7 +8,7 @@ use lib.Dec.{eqb}
 use lib.ListN.{length}
 use Rattle.boxes.specs.Boxes.{allFree}
 use Rattle.boxes.proofs.Boxes.{contains-all}
-use Rattle.boxes.proofs.Cases.{if, same-or, mark, clash}
+use Rattle.ground.proofs.Cases.{if, same-or, mark, clash}
 use Rattle.tables.specs.Tables.{own, raised, lowered, touched}
 use Rattle.tables.proofs.Changes.{raised-differ, lowered-differ, differ-own, differ-here, raises-sums, lowers-sums}
 use Rattle.sheet.specs.declared.Sheet.{Sheet}

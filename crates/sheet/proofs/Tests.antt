@@ -9,7 +9,7 @@ use lib.Count.{ones-le}
 use lib.Dec.{eqb, leb}
 use borrow.Author.Tests.{le-leb, lt-leb, le-ltb, lt-ltb, leb-true}
 use Rattle.boxes.specs.Boxes.{contains, freeCount, freeMarks}
-use Rattle.boxes.proofs.Cases.{if, below-or, leb-same, and-left, and-right, and-yes}
+use Rattle.ground.proofs.Cases.{if, below-or, leb-same, and-left, and-right, and-yes}
 use Rattle.boxes.proofs.Choices.{freeMarks-lt, freeCount-ones}
 use Rattle.tables.specs.Tables.{entry, own, touched, inBounds}
 use Rattle.tables.proofs.Touched.{touched-at}

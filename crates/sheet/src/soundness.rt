@@ -2,7 +2,7 @@
 ghost use mathlib.Core.Bool.{true};
 ghost use Prim.Native.Nat.{ℕ, _≤_, _<_, _^_};
 ghost use lib.ListN.{length};
-ghost use Rattle.boxes.specs.Decides.{Decides};
+ghost use Rattle.ground.specs.Decides.{Decides};
 ghost use Rattle.tables.specs.Tables.{own};
 ghost use Rattle.sheet.specs.Limits.{mostMarks, entries};
 ghost use Rattle.sheet.specs.Sound.{ClassSound, TimesSound, ClassReady, Ready};

@@ -9,7 +9,7 @@ use native.Mathlib.Omega.{arith}
 use lib.ListN.{length, take, drop, length-append}
 use borrow.Author.Tests.{le-leb, lt-ltb, ltb-true, ltb-false}
 use Rattle.boxes.specs.Sums.{sum, only}
-use Rattle.boxes.proofs.Cases.{below-or}
+use Rattle.ground.proofs.Cases.{below-or}
 use Rattle.sheet.specs.Limits.{mostHeld}
 use Rattle.sheet.specs.Record.{Record, opened}
 use Rattle.sheet.specs.Sound.{sizeOf}

@@ -7,7 +7,7 @@ use native.Mathlib.Numerals.{add-one}
 use native.Mathlib.Omega.{arith}
 use lib.ListN.{length, length-append}
 use Rattle.boxes.specs.Sums.{sum, only}
-use Rattle.boxes.proofs.Cases.{below-or}
+use Rattle.ground.proofs.Cases.{below-or}
 use Rattle.boxes.proofs.Sums.{sum-le, sum-ones, only-le}
 use Rattle.stored.specs.Form.{listed, alone}
 

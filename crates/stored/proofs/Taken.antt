@@ -10,7 +10,7 @@ use lib.ListN.{take, drop}
 use lib.Dec.{leb, ltb}
 use borrow.Author.Tests.{leb-true, ltb-true, lt-ltb, le-ltb}
 use Rattle.boxes.specs.Sums.{sum}
-use Rattle.boxes.proofs.Cases.{and-left, and-right}
+use Rattle.ground.proofs.Cases.{and-left, and-right}
 use Rattle.boxes.proofs.Sums.{sum-change, sum-zero}
 use Rattle.sheet.specs.Limits.{marksOk, mostHeld}
 use Rattle.sheet.specs.Record.{Record, opened}

@@ -5,7 +5,7 @@ use mathlib.Core.Bool.{Bool, cond}
 use native.Mathlib.Omega.{arith}
 use lib.Dec.{ltb}
 use borrow.Author.Tests.{lt-ltb, le-ltb, eq-eqb, ne-eqb}
-use Rattle.boxes.proofs.Cases.{below-or, same-or}
+use Rattle.ground.proofs.Cases.{below-or, same-or}
 use Rattle.stored.specs.Fields.{put}
 
 module _ {A : Type 0} (c : ℕ) (v : A) (f : ℕ → A) where

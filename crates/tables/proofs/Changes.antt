@@ -10,7 +10,7 @@ use lib.ListN.{length}
 use borrow.Author.Tests.{eq-eqb, ne-eqb}
 use Rattle.boxes.specs.Boxes.{contains, sumIn, single}
 use Rattle.boxes.specs.Sums.{only}
-use Rattle.boxes.proofs.Cases.{if}
+use Rattle.ground.proofs.Cases.{if}
 use Rattle.boxes.proofs.Boxes.{sumIn-change, contains-nothing}
 use Rattle.boxes.proofs.Choices.{through-lt, through-contains, single-contains}
 use Rattle.tables.specs.Tables.{entry, own, afresh, raised, lowered, Sums, Differ}

@@ -6,7 +6,7 @@ use native.Mathlib.Omega.{arith}
 use lib.ListN.{length}
 use lib.Seq.{ext-getD}
 use Rattle.boxes.specs.Boxes.{sumIn, single}
-use Rattle.boxes.proofs.Cases.{below-or}
+use Rattle.ground.proofs.Cases.{below-or}
 use Rattle.boxes.proofs.Boxes.{sumIn-ext, sumIn-nothing}
 use Rattle.boxes.proofs.Choices.{through-lt, sumIn-single}
 use Rattle.tables.specs.Tables.{tab, entry, own, afresh, Sums}

@@ -8,7 +8,7 @@ use lib.ListN.{length, set, length-set}
 use lib.Seq.{getD-set-same, getD-set-other}
 use Rattle.boxes.specs.Boxes.{contains, freeMarks, through}
 use Rattle.boxes.specs.Sums.{only}
-use Rattle.boxes.proofs.Cases.{if, clash, below-or, same-or}
+use Rattle.ground.proofs.Cases.{if, clash, below-or, same-or}
 use Rattle.boxes.proofs.Choices.{through-lt, through-contains, through-free, freeMarks-through, freeMarks-lt}
 use Rattle.tables.specs.Tables.{entry, tab, raised, lowered}
 use Rattle.tables.proofs.Entries.{tab-of, tab-ext}

@@ -2,7 +2,7 @@
 use Prim.Native.Nat.{ℕ, suc, _+_, _*_, _-_, _^_, _<_, _≤_}
 use mathlib.Core.Path.{_≡_, refl, sym, _∙_, ap, subst, fun-ext}
 use mathlib.Core.Bool.{Bool}
-use Rattle.boxes.specs.Decides.{Decides}
+use Rattle.ground.specs.Decides.{Decides}
 use mathlib.Core.List.{List}
 use native.Mathlib.Nat.{pow-suc, one-le-pow}
 use native.Mathlib.Omega.{arith}
@@ -10,7 +10,7 @@ use lib.ListN.{length, set, length-set}
 use lib.Seq.{getD-set-same, getD-set-other}
 use Rattle.boxes.specs.Boxes.{sumIn, through, single, allFree}
 use Rattle.boxes.proofs.Boxes.{sumIn-ext, sumIn-nothing, sumIn-le-all}
-use Rattle.boxes.proofs.Cases.{below-or, same-or}
+use Rattle.ground.proofs.Cases.{below-or, same-or}
 use Rattle.boxes.proofs.Choices.{through-wide, sumIn-single}
 use Rattle.boxes.proofs.Highest.{sumIn-off, sumIn-on, sumIn-free, single-top}
 use Rattle.tables.specs.Tables.{entry}

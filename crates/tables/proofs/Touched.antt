@@ -7,7 +7,7 @@ use lib.Count.{ones}
 use lib.Dec.{leb, ltb}
 use native.Mathlib.Omega.{arith}
 use Rattle.boxes.specs.Boxes.{contains, freeMarks, through}
-use Rattle.boxes.proofs.Cases.{if, clash, same-or, and-left, and-right}
+use Rattle.ground.proofs.Cases.{if, clash, same-or, and-left, and-right}
 use Rattle.boxes.proofs.Boxes.{contains-box}
 use Rattle.boxes.proofs.Choices.{through-lt, through-contains, through-free, freeMarks-lt, freeCount-through}
 use Rattle.tables.specs.Tables.{entry, every, touched, inBounds}

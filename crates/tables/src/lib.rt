@@ -5,7 +5,7 @@ ghost use Prim.Native.Nat.{ℕ, _+_, _*_, _-_, _^_, _<_, _≤_};
 ghost use lib.Dec.{leb, ltb};
 ghost use lib.Count.{ones};
 ghost use lib.ListN.{length};
-ghost use Rattle.boxes.specs.Decides.{Decides};
+ghost use Rattle.ground.specs.Decides.{Decides};
 ghost use Rattle.boxes.specs.Boxes.{contains, sumIn, allFree};
 ghost use Rattle.tables.specs.Tables.{entry, own, afresh, raised, lowered, touched, inBounds, Sums};
 ghost use Rattle.tables.specs.Thirds.{from, Joined, SumsOf, sumOf, Made};
@@ -35,18 +35,12 @@ pub fn lower(m: usize, c: usize, d: u32, t: &mut [u32])
     }
 }
 
-fn wide(x: u32) -> u64
-    ensures { λ r. ⌜ (r ≡ x) × (r < 2 ^ 32) ⌝ }
-{
-    x as u64
-}
-
 // Whether x, kept of a box with the free marks k, is at least `low`, and below `high` with `each` more for each combination of the box.
 fn is_between(x: u32, k: usize, low: u64, high: u64, each: u64) -> bool
     requires { ⌜ (k < 2 ^ 8) × (high < 2 ^ 33) × (each ≤ 1) ⌝ }
     ensures { λ r. ⌜ r ≡ (leb low x && ltb x (high + each * 2 ^ ones k)) ⌝ }
 {
-    let y = wide(x);
+    let y = ground::wide(x);
     let size = boxes::power2(usize::count_ones(k) as usize) as u64;
     low <= y && y < high + each * size
 }
@@ -76,7 +70,7 @@ fn is_joined(p: usize, t: &[u32], at: usize) -> bool
         let off = at + b;
         let on = off + p;
         let free = on + p;
-        if wide(t[free]) != wide(t[off]) + wide(t[on]) {
+        if ground::wide(t[free]) != ground::wide(t[off]) + ground::wide(t[on]) {
             return false;
         }
     }

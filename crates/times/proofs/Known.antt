@@ -5,7 +5,8 @@ use mathlib.Core.List.{List, [], _∷_}
 use native.Mathlib.Omega.{arith}
 use Rattle.times.specs.declared.Time.{Time}
 use Rattle.times.specs.declared.Time.the-variants.{Value, Fault}
-use Rattle.times.specs.Texts.{ascii, minutes, Numeral, Readable}
+use Rattle.ground.specs.Texts.{ascii}
+use Rattle.times.specs.Texts.{minutes, Numeral, Readable}
 use Rattle.times.specs.Places.{Reads, value}
 use Rattle.times.proofs.Behinds.{behind-one}
 use Rattle.times.proofs.Fronts.{SoFar, far-none, far-step, stop-at, colon-at, led-stop, led-on, numeral-digit, numeral-more, readable, noughts}

@@ -3,7 +3,8 @@ use Prim.Native.Nat.{ℕ, _+_, _*_, _≤_}
 use mathlib.Core.Path.{_≡_, refl, ap, _∙_}
 use mathlib.Core.List.{List, [], _∷_, _++_}
 use native.Mathlib.Omega.{arith}
-use Rattle.times.specs.Texts.{ascii, Numeral, After, minutes, Behind, Readable}
+use Rattle.ground.specs.Texts.{ascii}
+use Rattle.times.specs.Texts.{Numeral, After, minutes, Behind, Readable}
 
 -- minutes 0 to 599 without a leading zero, and seconds 00 to 59
 pub record Spelled (t : List ℕ) (v : ℕ) : Type 0 where

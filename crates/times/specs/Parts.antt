@@ -8,7 +8,8 @@ use Rattle.times.specs.declared.Time.{Time}
 use Rattle.times.specs.declared.Time.the-variants.{Value, Fault}
 use Rattle.times.specs.declared.Lead.{Lead}
 use Rattle.times.specs.declared.Lead.the-variants.{Colon, Stop}
-use Rattle.times.specs.Texts.{ascii, Digit, Numeral, Readable}
+use Rattle.ground.specs.Texts.{ascii}
+use Rattle.times.specs.Texts.{Digit, Numeral, Readable}
 use Rattle.times.specs.Places.{Reads}
 
 -- a test of P

@@ -1,14 +1,11 @@
 -- Reading a text: a number, or the place of the fault (01, 'Running times'). L t v says that the text t is readable, as the number v.
 use Prim.Native.Nat.{ℕ, _≤_}
 use mathlib.Core.Path.{_≡_}
-use mathlib.Core.List.{List, _++_}
+use mathlib.Core.List.{List}
 use lib.ListN.{length}
+use Rattle.ground.specs.Texts.{Begins}
 use Rattle.times.specs.declared.Time.{Time}
 use Rattle.times.specs.declared.Time.the-variants.{Value, Fault}
-
--- a is a beginning of t
-abbrev pub Begins : List ℕ → List ℕ → Type 0
-Begins a t = (rest : List ℕ) × (t ≡ a ++ rest)
 
 -- a is a beginning of t that is also the beginning of some readable text
 pub record Common (L : List ℕ → ℕ → Type 0) (t a : List ℕ) : Type 0 where

@@ -1,39 +1,33 @@
 -- Which texts are running times, and of how many seconds (01, 'Running times'). A text is a list of bytes.
 use Prim.Native.Nat.{ℕ, _+_, _-_, _*_, _≤_, _<_}
-use Prim.Native.String.{String, [], _∷_}
-use Prim.Native.Char.{code}
 use mathlib.Core.Path.{_≡_}
-use mathlib.Core.List.{List, [] as end, _∷_ as _then_, _++_}
+use mathlib.Core.List.{List, [], _∷_, _++_}
 use lib.ListN.{length}
-
--- the bytes of a text that is written out
-abbrev pub ascii : String → List ℕ
-ascii [] = end
-ascii (c ∷ s) = code c then ascii s
+use Rattle.ground.specs.Texts.{ascii}
 
 -- `0` to `9`
 abbrev pub Digit : ℕ → Type 0
 Digit c = (48 ≤ c) × (c ≤ 57)
 
 unfoldable pub Digits : List ℕ → Type 0
-Digits end = Unit {0}
-Digits (c then l) = Digit c × Digits l
+Digits [] = Unit {0}
+Digits (c ∷ l) = Digit c × Digits l
 
 -- the number that the digits of l write behind those of n
 unfoldable pub number : ℕ → List ℕ → ℕ
-number n end = n
-number n (c then l) = number (n * 10 + (c - 48)) l
+number n [] = n
+number n (c ∷ l) = number (n * 10 + (c - 48)) l
 
 -- l writes the number n, without a leading zero except `0` itself
 pub record Numeral (l : List ℕ) (n : ℕ) : Type 0 where
   pub some : 0 < length l
   pub digits : Digits l
-  pub plain : (rest : List ℕ) → l ≡ 48 then rest → rest ≡ end
+  pub plain : (rest : List ℕ) → l ≡ 48 ∷ rest → rest ≡ []
   pub is : number 0 l ≡ n
 
 -- What may stand behind `N:XX`, and the seconds that it all makes: nothing, where N is minutes and XX seconds.
 pub data After (n x : ℕ) : List ℕ → ℕ → Type 0 where
-  minutes : {v : ℕ} → v ≡ n * 60 + x → After n x end v
+  minutes : {v : ℕ} → v ≡ n * 60 + x → After n x [] v
 
 -- What may stand behind `N:`: two digits, 00 to 59, and what may stand behind them.
 pub record Behind (n : ℕ) (t : List ℕ) (v : ℕ) : Type 0 where
@@ -42,7 +36,7 @@ pub record Behind (n : ℕ) (t : List ℕ) (v : ℕ) : Type 0 where
   pub tens-small : tens ≤ 5
   pub ones-small : ones ≤ 9
   pub rest : List ℕ
-  pub text : t ≡ (48 + tens) then (48 + ones) then rest
+  pub text : t ≡ (48 + tens) ∷ (48 + ones) ∷ rest
   pub after : After n (tens * 10 + ones) rest v
 
 -- A readable text t and its seconds v: a number up to 599, a colon, and what may stand behind it.

@@ -12,7 +12,7 @@ use lib.Dec.{eqb}
 use borrow.Author.Tests.{lt-ltb}
 use Rattle.boxes.specs.Boxes.{single}
 use Rattle.boxes.specs.Sums.{sum, only}
-use Rattle.boxes.proofs.Cases.{below-or}
+use Rattle.ground.proofs.Cases.{below-or}
 use Rattle.boxes.proofs.Sums.{sum-ext}
 use Rattle.tables.specs.Tables.{entry, own}
 use Rattle.sheet.specs.Sound.{classOf, sizeOf, recordOf}
@@ -21,8 +21,8 @@ use Rattle.stored.specs.Form.{bytes, listed, alone, form}
 use Rattle.stored.specs.Answers.{Fit, Writes, written}
 use Rattle.stored.proofs.Numbers.{bytes-length}
 use Rattle.stored.proofs.Listed.{listed-ext}
-use Rattle.print.specs.Areas.{laid, Wrote}
-use Rattle.print.proofs.Areas.{wrote-then, wrote-text, wrote-length, wrote-none}
+use Rattle.ground.specs.Areas.{laid, Wrote}
+use Rattle.ground.proofs.Areas.{wrote-then, wrote-text, wrote-length, wrote-none}
 use Rattle.writing.specs.Sections.{stands, text, listOf, countOf, told}
 
 same-head : {x y : ℕ} {a b : List ℕ} → (x ∷ a) ≡ (y ∷ b) → x ≡ y

@@ -8,7 +8,7 @@ ghost use Rattle.boxes.specs.Sums.{only};
 ghost use Rattle.sheet.specs.Limits.{mostMarks, entries};
 ghost use Rattle.stored.specs.Form.{bytes, form};
 ghost use Rattle.stored.specs.Answers.{Writes};
-ghost use Rattle.print.specs.Areas.{Wrote};
+ghost use Rattle.ground.specs.Areas.{Wrote};
 ghost use Rattle.writing.specs.Sections.{stands, text, listOf, countOf, told};
 use sheet::Sheet;
 use sheet::Value;
@@ -27,7 +27,7 @@ fn put_bytes(out: &mut [u8], at: usize, k: usize, n: usize) -> usize
     let mut next = at;
     let mut rest = n;
     for i in 0..k {
-        next = print::put_byte(out, next, (rest % 256) as u8);
+        next = ground::put_byte(out, next, (rest % 256) as u8);
         rest = rest / 256;
     }
     next
@@ -51,7 +51,7 @@ fn put_entry(out: &mut [u8], at: usize, c: usize, x: usize, held: bool) -> usize
     if !stands(x, held) {
         return at;
     }
-    let next = print::put_byte(out, at, c as u8);
+    let next = ground::put_byte(out, at, c as u8);
     if !held {
         return next;
     }
@@ -100,7 +100,7 @@ fn put_form(out: &mut [u8], m: usize, outside: &[u32], held: &[u32], a: usize, b
     requires { ⌜ (m ≤ 5) × (entries ≤ length (now outside)) × (entries ≤ length (now held)) × (a ≡ countOf false m (now outside)) × (b ≡ countOf true m (now held)) × (length (form (told m (now outside) (now held))) ≤ length (now out)) ⌝ }
     ensures { λ r. ⌜ Wrote (now (out .entry)) 0 (form (told m (now (outside .entry)) (now (held .entry)))) r (now (out .exit)) ⌝ }
 {
-    let first = print::put_byte(out, 0, m as u8);
+    let first = ground::put_byte(out, 0, m as u8);
     let class = put_bytes(out, first, 2, a);
     let second = put_list(out, class, m, outside, false);
     let times = put_bytes(out, second, 2, b);

@@ -2,7 +2,7 @@
 use mathlib.Core.Path.{sym}
 use lib.Seq.{length-take-le}
 use borrow.Author.Needs.{needs}
-use Rattle.print.proofs.Areas.{wrote-front}
+use Rattle.ground.proofs.Areas.{wrote-front}
 use Rattle.holdings.proofs.close.Statement.{statement}
 use Rattle.holdings.proofs.close.Tie as tie
 

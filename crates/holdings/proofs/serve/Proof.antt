@@ -8,7 +8,7 @@ use lib.Seq.{length-take-le, take-all}
 use lib.ListN.{length, take, drop}
 use Rattle.desk.proofs.Pieces.{taken-none, taken-number, rest-used, taken-more}
 use Rattle.desk.specs.States.{State, At, FedBy, Taken}
-use Rattle.print.proofs.Areas.{wrote-front}
+use Rattle.ground.proofs.Areas.{wrote-front}
 use Rattle.holdings.proofs.serve.Statement.{statement}
 use Rattle.holdings.proofs.serve.Tie as tie
 

@@ -20,11 +20,11 @@ slice-aggregate-word c = search needs
 word-requires : tie.Need-word-requires Inv-loop μ-loop
 word-requires c κs = search needs
 
-shared-slice-read-wide : tie.Need-shared-slice-read-wide Inv-loop μ-loop
-shared-slice-read-wide c = search needs
+shared-slice-read-byte : tie.Need-shared-slice-read-byte Inv-loop μ-loop
+shared-slice-read-byte c = search needs
 
-wide-requires : tie.Need-wide-requires Inv-loop μ-loop
-wide-requires c κs = search needs
+byte-requires : tie.Need-byte-requires Inv-loop μ-loop
+byte-requires c κs = search needs
 
 print-hex-requires : tie.Need-print-hex-requires Inv-loop μ-loop
 print-hex-requires c κs = search needs
@@ -56,8 +56,8 @@ print-bytes-spec =
     loop-holds
     slice-aggregate-word
     word-requires
-    shared-slice-read-wide
-    wide-requires
+    shared-slice-read-byte
+    byte-requires
     print-hex-requires
     add-i
     loop-less

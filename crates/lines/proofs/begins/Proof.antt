@@ -4,7 +4,7 @@ use mathlib.Core.Path.{refl}
 use native.Mathlib.Omega.{arith}
 use lib.ListN.{length}
 use Rattle.lines.proofs.Verbs.{Alike, alike-none, alike-more, alike-all, begun-long, begun-byte}
-use Rattle.boxes.proofs.Cases.{decided-yes, decided-no}
+use Rattle.ground.proofs.Cases.{decided-yes, decided-no}
 use Rattle.lines.proofs.begins.Statement.{statement}
 use Rattle.lines.proofs.begins.Tie as tie
 

@@ -7,9 +7,9 @@ use Rattle.lines.specs.declared.Order.the-variants.{Unreadable}
 use Rattle.lines.proofs.Orders.{asked-in, asked-out, asked-recv, asked-gone, end-alone, asked-nothing}
 use Rattle.lines.proofs.Verbs.{begun-long, behind}
 use Rattle.lines.specs.Words.{Asked, said, ends}
-use Rattle.times.specs.Places.{Begins}
-use Rattle.times.specs.Texts.{ascii}
-use Rattle.boxes.proofs.Cases.{denied}
+use Rattle.ground.specs.Texts.{Begins}
+use Rattle.ground.specs.Texts.{ascii}
+use Rattle.ground.proofs.Cases.{denied}
 use Rattle.lines.proofs.read.Statement.{statement}
 use Rattle.lines.proofs.read.Tie as tie
 

@@ -3,7 +3,7 @@ use native.Mathlib.Omega.{arith}
 use borrow.Author.Tests.{not-true, not-false}
 use borrow.Author.Needs.{needs}
 use Rattle.lines.proofs.Orders.{opens-other, opens-long, opens-byte, opens-marks}
-use Rattle.boxes.proofs.Cases.{denied}
+use Rattle.ground.proofs.Cases.{denied}
 use Rattle.lines.proofs.read_marks.Statement.{statement}
 use Rattle.lines.proofs.read_marks.Tie as tie
 
@@ -28,14 +28,14 @@ returns-3 c = opens-byte _ (λ w. omega (arith, w .0))
 returns-4 : tie.Need-returns-4
 returns-4 c = opens-byte _ (λ w. omega (arith, w .1))
 
-wide-requires : tie.Need-wide-requires
-wide-requires c κs = search needs
+byte-requires : tie.Need-byte-requires
+byte-requires c κs = search needs
 
 sub-t11 : tie.Need-sub-t11
-sub-t11 c = omega (arith, c .wide .ensures)
+sub-t11 c = omega (arith, c .byte .ensures .0)
 
 returns-5 : tie.Need-returns-5
-returns-5 c = opens-marks _ _ (c .before .before .before .before .before .before .begins .ensures .yes (not-false _ (c .before .before .before .before .before .if1 .left))) (c .before .before .before .before .if2 .left) (omega (arith, c .wide .ensures)) (omega (arith, c .wide .ensures))
+returns-5 c = opens-marks _ _ (c .before .before .before .before .before .before .begins .ensures .yes (not-false _ (c .before .before .before .before .before .if1 .left))) (c .before .before .before .before .if2 .left) (omega (arith, c .byte .ensures .0)) (omega (arith, c .byte .ensures .0))
 
 pub read-marks-spec : {M : Type 1} → statement M
 read-marks-spec =
@@ -48,6 +48,6 @@ read-marks-spec =
     shared-slice-read-c
     returns-3
     returns-4
-    wide-requires
+    byte-requires
     sub-t11
     returns-5)

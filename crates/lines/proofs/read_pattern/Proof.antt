@@ -32,14 +32,14 @@ returns-3 c = pattern-other _ _ (c .before .before .before .before .loop .i) (om
 mul-n : tie.Need-mul-n Inv-loop μ-loop
 mul-n c = let l = c .before .before .before .before .loop in omega (arith, front-fits _ _ _ _ (l .inv .2) (l .inv .1) (c .before .before .before .before .before .before .before .pre))
 
-wide-requires : tie.Need-wide-requires Inv-loop μ-loop
-wide-requires c κs = search needs
+byte-requires : tie.Need-byte-requires Inv-loop μ-loop
+byte-requires c κs = search needs
 
 sub-n : tie.Need-sub-n Inv-loop μ-loop
-sub-n c = omega (arith, c .wide .ensures)
+sub-n c = omega (arith, c .byte .ensures .0)
 
 add-n : tie.Need-add-n Inv-loop μ-loop
-add-n c = let l = c .before .before .before .before .before .loop in omega (arith, c .wide .ensures, front-fits _ _ _ _ (l .inv .2) (l .inv .1) (c .before .before .before .before .before .before .before .before .pre))
+add-n c = let l = c .before .before .before .before .before .loop in omega (arith, c .byte .ensures .0, front-fits _ _ _ _ (l .inv .2) (l .inv .1) (c .before .before .before .before .before .before .before .before .pre))
 
 add-i : tie.Need-add-i Inv-loop μ-loop
 add-i c = omega arith
@@ -48,7 +48,7 @@ loop-less : tie.Need-loop-less Inv-loop μ-loop
 loop-less c = omega arith
 
 loop-again : tie.Need-loop-again Inv-loop μ-loop
-loop-again c = let l = c .before .before .before .before .before .loop in (l .inv .0, omega arith, front-more _ (l .i) (l .n) _ (l .inv .2) (omega (arith, l .inv .0)) (omega (arith, c .wide .ensures)) (omega (arith, c .wide .ensures)))
+loop-again c = let l = c .before .before .before .before .before .loop in (l .inv .0, omega arith, front-more _ (l .i) (l .n) _ (l .inv .2) (omega (arith, l .inv .0)) (omega (arith, c .byte .ensures .0)) (omega (arith, c .byte .ensures .0)))
 
 returns-4 : tie.Need-returns-4 Inv-loop μ-loop
 returns-4 c = let l = c .before .loop in pattern-read _ _ (l .n) (l .inv .0) (subst (λ (x : ℕ). Front (c .before .before .before .before .args .part .now) x (l .n)) (omega arith) (l .inv .2))
@@ -65,7 +65,7 @@ read-pattern-spec =
     returns-2
     returns-3
     mul-n
-    wide-requires
+    byte-requires
     sub-n
     add-n
     add-i

@@ -7,7 +7,7 @@ use Rattle.listing.specs.Listing.Listed.{spoiled, short, searched}
 use Rattle.sheet.proofs.Tests.{marks-most}
 use Rattle.sheet.specs.Sound.{ClassReady}
 use Rattle.sheet.specs.Limits.{mostMarks}
-use Rattle.boxes.proofs.Cases.{denied}
+use Rattle.ground.proofs.Cases.{denied}
 use Rattle.listing.proofs.list.Statement.{statement}
 use Rattle.listing.proofs.list.Tie as tie
 

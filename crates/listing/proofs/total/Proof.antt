@@ -9,7 +9,7 @@ use Rattle.listing.specs.Listing.{Totalled}
 use Rattle.sheet.proofs.Tests.{marks-most}
 use Rattle.sheet.specs.Sound.{Ready}
 use Rattle.sheet.specs.Limits.{mostMarks}
-use Rattle.boxes.proofs.Cases.{denied}
+use Rattle.ground.proofs.Cases.{denied}
 use Rattle.listing.proofs.total.Statement.{statement}
 use Rattle.listing.proofs.total.Tie as tie
 

@@ -11,7 +11,7 @@ use Rattle.print.proofs.put_number.Reads as put-number
 use Rattle.print.proofs.put_number.Kinds as put-number-kinds
 use Rattle.print.proofs.+put_number.Lts-put_number as put-number-lts
 use Rattle.print.proofs.digit.Reads as digit-reads
-use Rattle.print.proofs.put_byte.Reads as put-byte-reads
+use Rattle.ground.proofs.put_byte.Reads as put-byte-reads
 use Rattle.print.proofs.+put_number.{statement}
 use Rattle.print.proofs.+put_number.Tie.{close}
 

@@ -3,14 +3,14 @@ use Prim.Native.Nat.{ℕ, _-_, _/_, _<_}
 use native.Mathlib.Omega.{arith}
 use mathlib.Core.Path.{_∙_}
 use Rattle.print.proofs.Digits.{pattern-length}
-use Rattle.print.proofs.Areas.{wrote-none, wrote-text}
+use Rattle.ground.proofs.Areas.{wrote-none, wrote-text}
 use Rattle.print.proofs.Writing.{pattern-none, pattern-last}
 use borrow.Fn.Kinds.{In}
 use borrow.Fn.PlainCycle.{Measures, is, falls, and}
 use Rattle.print.proofs.put_pattern.Reads as put-pattern
 use Rattle.print.proofs.put_pattern.Kinds as put-pattern-kinds
 use Rattle.print.proofs.+put_pattern.Lts-put_pattern as put-pattern-lts
-use Rattle.print.proofs.put_byte.Reads as put-byte-reads
+use Rattle.ground.proofs.put_byte.Reads as put-byte-reads
 use Rattle.print.proofs.sign.Reads as sign-reads
 use Rattle.print.proofs.+put_pattern.{statement}
 use Rattle.print.proofs.+put_pattern.Tie.{close}

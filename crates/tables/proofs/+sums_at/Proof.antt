@@ -12,7 +12,7 @@ use Prim.Native.Nat.{ℕ, suc, _*_, _-_, _^_, _<_}
 use mathlib.Core.Path.{_≡_, refl, ap, _∙_}
 use native.Mathlib.Nat.{pow-suc}
 use borrow.Author.Tests.{not-true, not-false}
-use Rattle.boxes.proofs.Cases.{decided-yes, decided-no, denied}
+use Rattle.ground.proofs.Cases.{decided-yes, decided-no, denied}
 use Rattle.tables.specs.Tables.{entry}
 use Rattle.tables.proofs.Thirds.{sums-none, parts-sums, off-sums, on-sums}
 use native.Mathlib.Omega.{arith}

@@ -5,7 +5,7 @@ use native.Mathlib.Omega.{arith}
 use borrow.Author.Needs.{needs}
 use borrow.Author.Count.{below-more}
 use Rattle.tables.specs.Tables.{entry}
-use Rattle.boxes.proofs.Cases.{decided-yes, decided-no}
+use Rattle.ground.proofs.Cases.{decided-yes, decided-no}
 use Rattle.tables.proofs.is_joined.Statement.{statement}
 use Rattle.tables.proofs.is_joined.Tie as tie
 

@@ -2,7 +2,7 @@ use Prim.Native.Nat.{ℕ}
 use mathlib.Core.Path.{subst}
 use native.Mathlib.Omega.{arith}
 use native.Mathlib.Nat.{pow-le-pow-right}
-use Rattle.boxes.specs.Decides.{Decides}
+use Rattle.ground.specs.Decides.{Decides}
 use Rattle.tables.specs.Tables.{entry}
 use Rattle.tables.specs.Thirds.{SumsOf}
 use Rattle.tables.proofs.Thirds.{from-start}

@@ -7,8 +7,8 @@ use native.Mathlib.Omega.{arith}
 use lib.ListN.{take}
 use Rattle.writing.proofs.Laws.{Coming, coming-all, coming-byte, coming-next, bytes-place, bytes-long, bytes-put}
 use Rattle.stored.proofs.Numbers.{bytes-length}
-use Rattle.print.proofs.Areas.{wrote-none, wrote-more, wrote-text}
-use Rattle.print.specs.Areas.{Wrote}
+use Rattle.ground.proofs.Areas.{wrote-none, wrote-more, wrote-text}
+use Rattle.ground.specs.Areas.{Wrote}
 use Rattle.stored.specs.Form.{bytes}
 use Rattle.writing.proofs.put_bytes.Statement.{statement}
 use Rattle.writing.proofs.put_bytes.Tie as tie

@@ -8,7 +8,7 @@ use borrow.Author.Tests.{not-true, not-false}
 use borrow.Author.Needs.{needs}
 use Rattle.writing.proofs.Laws.{entry-none, entry-some}
 use Rattle.writing.specs.Sections.{stands}
-use Rattle.print.proofs.Areas.{wrote-none, wrote-text, wrote-then}
+use Rattle.ground.proofs.Areas.{wrote-none, wrote-text, wrote-then}
 use Rattle.stored.proofs.Numbers.{bytes-length}
 use Rattle.writing.proofs.put_entry.Statement.{statement}
 use Rattle.writing.proofs.put_entry.Tie as tie

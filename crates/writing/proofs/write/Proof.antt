@@ -12,7 +12,7 @@ use Rattle.stored.specs.Form.{form}
 use Rattle.sheet.proofs.Tests.{marks-most}
 use Rattle.sheet.specs.Sound.{recordOf}
 use Rattle.sheet.specs.Limits.{mostMarks, entries}
-use Rattle.boxes.proofs.Cases.{denied}
+use Rattle.ground.proofs.Cases.{denied}
 use Rattle.writing.proofs.write.Statement.{statement}
 use Rattle.writing.proofs.write.Tie as tie
 

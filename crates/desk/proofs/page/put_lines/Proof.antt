@@ -8,8 +8,8 @@ use borrow.Author.Needs.{needs}
 use Rattle.desk.proofs.Texts.{line-length, lines-more}
 use Rattle.desk.specs.Prints.{boxLine, boxLines}
 use Rattle.tables.specs.Tables.{entry}
-use Rattle.print.proofs.Areas.{wrote-none, wrote-then, wrote-text, wrote-length}
-use Rattle.print.specs.Areas.{Wrote}
+use Rattle.ground.proofs.Areas.{wrote-none, wrote-then, wrote-text, wrote-length}
+use Rattle.ground.specs.Areas.{Wrote}
 use Rattle.desk.proofs.page.put_lines.Statement.{statement}
 use Rattle.desk.proofs.page.put_lines.Tie as tie
 
@@ -23,17 +23,17 @@ loop-holds : tie.Need-loop-holds Inv-loop μ-loop
 unfolding boxLines
 loop-holds c = let s = c .before .before .before in (omega arith, refl, omega arith, wrote-none (s .args .out .now) (s .args .at))
 
-shared-slice-read-number-of : tie.Need-shared-slice-read-number-of Inv-loop μ-loop
-shared-slice-read-number-of c = omega arith
+shared-slice-read-byte : tie.Need-shared-slice-read-byte Inv-loop μ-loop
+shared-slice-read-byte c = omega arith
 
-number-of-requires : tie.Need-number-of-requires Inv-loop μ-loop
-number-of-requires c κs = search needs
+byte-requires : tie.Need-byte-requires Inv-loop μ-loop
+byte-requires c κs = search needs
 
 mul-wide : tie.Need-mul-wide Inv-loop μ-loop
-mul-wide c = let h = c .before .before .shared-slice-known3 .given (c .before .before .before .before .loop .i) in omega (arith, c .before .number-of .ensures)
+mul-wide c = let h = c .before .before .shared-slice-known3 .given (c .before .before .before .before .loop .i) in omega (arith, c .before .byte .ensures .0)
 
 shared-slice-read-wide : tie.Need-shared-slice-read-wide Inv-loop μ-loop
-shared-slice-read-wide c = let s = c .before .before .before .before .before .before .before .before .before in omega (arith, c .before .before .number-of .ensures, s .pre .1 (c .before .before .before .before .before .loop .i) (omega arith))
+shared-slice-read-wide c = let s = c .before .before .before .before .before .before .before .before .before in omega (arith, c .before .before .byte .ensures .0, s .pre .1 (c .before .before .before .before .before .loop .i) (omega arith))
 
 wide-requires : tie.Need-wide-requires Inv-loop μ-loop
 wide-requires c κs = search needs
@@ -54,11 +54,11 @@ loop-again c =
     let k = c .before .before .put-line in
     let f = entry (s .args .held .now) in
     let b = getD (s .args .list .now) (l .i) 0 in
-    let text : boxLine (s .args .m) (c .before .before .before .before .before .before .number-of .result) (c .before .before .before .wide .result) ≡ boxLine (s .args .m) b (f b) =
-    ap (λ (x : ℕ). boxLine (s .args .m) x (c .before .before .before .wide .result)) (c .before .before .before .before .before .before .number-of .ensures)
-    ∙ ap (λ (x : ℕ). boxLine (s .args .m) b x) (c .before .before .before .wide .ensures ∙ ap f (c .before .before .before .before .before .before .number-of .ensures)) in
+    let text : boxLine (s .args .m) (c .before .before .before .before .before .before .byte .result) (c .before .before .before .wide .result) ≡ boxLine (s .args .m) b (f b) =
+    ap (λ (x : ℕ). boxLine (s .args .m) x (c .before .before .before .wide .result)) (c .before .before .before .before .before .before .byte .ensures .0)
+    ∙ ap (λ (x : ℕ). boxLine (s .args .m) b x) (c .before .before .before .wide .ensures .0 ∙ ap f (c .before .before .before .before .before .before .byte .ensures .0)) in
     let w = wrote-text text (k .ensures) in
-    let small = line-length (s .args .m) (c .before .before .before .before .before .before .number-of .result) (c .before .before .before .wide .result) (s .pre .0) (omega arith) in
+    let small = line-length (s .args .m) (c .before .before .before .before .before .before .byte .result) (c .before .before .before .wide .result) (s .pre .0) (omega arith) in
     let room : length (boxLine (s .args .m) b (f b)) ≤ 28 = omega (arith, ap length text) in (
       omega arith,
       wrote-length w (omega (arith, s .pre .2, l .inv .1, l .inv .2)) ∙ l .inv .1,
@@ -85,8 +85,8 @@ put-lines-spec =
     Inv-loop
     μ-loop
     loop-holds
-    shared-slice-read-number-of
-    number-of-requires
+    shared-slice-read-byte
+    byte-requires
     mul-wide
     shared-slice-read-wide
     wide-requires

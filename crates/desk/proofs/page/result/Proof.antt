@@ -7,7 +7,7 @@ use borrow.Author.Needs.{needs}
 use Rattle.desk.proofs.Results.{size-small, total-small, sheet-marks, given, count-small, count-inside, numbers-below, printed}
 use Rattle.desk.proofs.Texts.{heads-length, last-length}
 use Rattle.histories.specs.Histories.{Given}
-use Rattle.print.proofs.Areas.{wrote-length}
+use Rattle.ground.proofs.Areas.{wrote-length}
 use Rattle.desk.proofs.page.result.Statement.{statement}
 use Rattle.desk.proofs.page.result.Tie as tie
 

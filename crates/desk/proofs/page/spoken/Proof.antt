@@ -1,7 +1,7 @@
 -- Nothing for 0.
 use borrow.Author.Tests.{eq-eqb, ne-eqb}
 use borrow.Author.Needs.{needs}
-use Rattle.print.proofs.Areas.{wrote-none}
+use Rattle.ground.proofs.Areas.{wrote-none}
 use Rattle.desk.proofs.page.spoken.Statement.{statement}
 use Rattle.desk.proofs.page.spoken.Tie as tie
 

@@ -4,7 +4,7 @@ use mathlib.Core.List.{[]}
 use mathlib.Core.Bool.{Bool, cond}
 use borrow.Author.Needs.{needs}
 use Rattle.desk.specs.Prints.{refusal}
-use Rattle.print.proofs.Areas.{wrote-none, wrote-text}
+use Rattle.ground.proofs.Areas.{wrote-none, wrote-text}
 use Rattle.desk.proofs.session.cut_off.Statement.{statement}
 use Rattle.desk.proofs.session.cut_off.Tie as tie
 

@@ -13,7 +13,7 @@ use Rattle.stored.proofs.UpTo.{put-here, put-other}
 use Rattle.stored.specs.Fields.{put, Next, class-of}
 use Rattle.sheet.proofs.Opening.{combinations-fit, same-entry}
 use Rattle.sheet.specs.Record.{outOf}
-use Rattle.boxes.proofs.Cases.{denied}
+use Rattle.ground.proofs.Cases.{denied}
 use Rattle.boxes.specs.Sums.{only}
 use Rattle.reading.proofs.class.list.Statement.{statement}
 use Rattle.reading.proofs.class.list.Tie as tie

@@ -3,7 +3,7 @@ use mathlib.Core.Path.{refl}
 use native.Mathlib.Omega.{arith}
 use borrow.Author.Needs.{needs}
 use Rattle.reading.proofs.Offsets.{stands-tested, stands-low}
-use Rattle.boxes.proofs.Cases.{decided-no}
+use Rattle.ground.proofs.Cases.{decided-no}
 use Rattle.reading.proofs.fields.stands.Statement.{statement}
 use Rattle.reading.proofs.fields.stands.Tie as tie
 

@@ -13,7 +13,7 @@ use Rattle.stored.proofs.UpTo.{put-here, put-other}
 use Rattle.stored.specs.Fields.{put, Next, due, seconds, held-of}
 use Rattle.sheet.proofs.Opening.{combinations-fit, same-entry}
 use Rattle.sheet.specs.Limits.{mostHeld}
-use Rattle.boxes.proofs.Cases.{denied}
+use Rattle.ground.proofs.Cases.{denied}
 use Rattle.reading.proofs.held.list.Statement.{statement}
 use Rattle.reading.proofs.held.list.Tie as tie
 

@@ -11,7 +11,7 @@ use Rattle.sheet.specs.Calls.{ClassSize, spoiled, told}
 use Rattle.sheet.specs.Sound.{ClassReady, classOf, sizeOf}
 use Rattle.sheet.specs.Limits.{mostMarks}
 use Rattle.tables.specs.Tables.{entry}
-use Rattle.boxes.proofs.Cases.{denied}
+use Rattle.ground.proofs.Cases.{denied}
 use Rattle.sheet.proofs.Sheet.class_size.Statement.{statement}
 use Rattle.sheet.proofs.Sheet.class_size.Tie as tie
 

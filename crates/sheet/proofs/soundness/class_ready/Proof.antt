@@ -1,7 +1,7 @@
 use mathlib.Core.Path.{sym, _∙_}
 use borrow.Author.Needs.{needs}
 use Rattle.sheet.proofs.Tests.{marks-most}
-use Rattle.boxes.proofs.Cases.{decided-no, clash}
+use Rattle.ground.proofs.Cases.{decided-no, clash}
 use Rattle.sheet.proofs.soundness.class_ready.Statement.{statement}
 use Rattle.sheet.proofs.soundness.class_ready.Tie as tie
 

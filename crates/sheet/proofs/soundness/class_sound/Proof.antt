@@ -1,7 +1,7 @@
 use native.Mathlib.Omega.{arith}
 use native.Mathlib.Nat.{pow-le-pow-right}
 use borrow.Author.Needs.{needs}
-use Rattle.boxes.proofs.Cases.{decided-no, denied}
+use Rattle.ground.proofs.Cases.{decided-no, denied}
 use Rattle.sheet.proofs.soundness.class_sound.Statement.{statement}
 use Rattle.sheet.proofs.soundness.class_sound.Tie as tie
 

@@ -6,7 +6,7 @@ use native.Mathlib.Nat.{pow-le-pow-right}
 use borrow.Author.Needs.{needs}
 use borrow.Author.Count.{below-more}
 use Rattle.tables.specs.Tables.{entry, own}
-use Rattle.boxes.proofs.Cases.{decided-yes, decided-no}
+use Rattle.ground.proofs.Cases.{decided-yes, decided-no}
 use Rattle.sheet.proofs.soundness.ones.Statement.{statement}
 use Rattle.sheet.proofs.soundness.ones.Tie as tie
 

@@ -1,5 +1,5 @@
 use Rattle.sheet.proofs.Tests.{marks-most}
-use Rattle.boxes.proofs.Cases.{decided-no, denied}
+use Rattle.ground.proofs.Cases.{decided-no, denied}
 use Rattle.sheet.proofs.soundness.ready.Statement.{statement}
 use Rattle.sheet.proofs.soundness.ready.Tie as tie
 

@@ -6,7 +6,7 @@ use borrow.Author.Tests.{lt-leb}
 use borrow.Author.Needs.{needs}
 use Rattle.tables.specs.Tables.{entry}
 use Rattle.boxes.specs.Boxes.{allFree}
-use Rattle.boxes.proofs.Cases.{decided-no}
+use Rattle.ground.proofs.Cases.{decided-no}
 use Rattle.sheet.proofs.soundness.times_sound.Statement.{statement}
 use Rattle.sheet.proofs.soundness.times_sound.Tie as tie
 

@@ -4,10 +4,10 @@ use Prim.Native.Nat.{_-_, _≤_}
 use mathlib.Core.Path.{_≡_, refl, _∙_}
 use lib.ListN.{length, take}
 use lib.Seq.{take-all, length-take-le}
-use Rattle.print.specs.Areas.{Wrote}
-use Rattle.print.proofs.Areas.{wrote-none, wrote-more, wrote-text}
-use Rattle.print.proofs.put.Statement.{statement}
-use Rattle.print.proofs.put.Tie as tie
+use Rattle.ground.specs.Areas.{Wrote}
+use Rattle.ground.proofs.Areas.{wrote-none, wrote-more, wrote-text}
+use Rattle.ground.proofs.put.Statement.{statement}
+use Rattle.ground.proofs.put.Tie as tie
 
 abbrev Inv-loop : tie.InvT-loop
 Inv-loop out₀ at text next₀ i₀ out next i = (i ≤ length text) × (length out ≡ length out₀) × Wrote out₀ at (take i text) next out

@@ -1,8 +1,8 @@
 -- One byte stored is a text of one byte.
 use borrow.Author.Needs.{needs}
-use Rattle.print.proofs.Areas.{wrote-byte}
-use Rattle.print.proofs.put_byte.Statement.{statement}
-use Rattle.print.proofs.put_byte.Tie as tie
+use Rattle.ground.proofs.Areas.{wrote-byte}
+use Rattle.ground.proofs.put_byte.Statement.{statement}
+use Rattle.ground.proofs.put_byte.Tie as tie
 
 slice-write-out : tie.Need-slice-write-out
 slice-write-out c = search needs

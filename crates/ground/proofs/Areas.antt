@@ -7,7 +7,7 @@ use native.Mathlib.Numerals.{add-one}
 use native.Mathlib.Omega.{arith}
 use lib.ListN.{length, getD, take, drop, set, length-append, length-drop, take-append-drop}
 use lib.Seq.{take-at, drop-at, drop-drop, length-take-le, set-split, append-snoc, take-suc}
-use Rattle.print.specs.Areas.{laid, Wrote}
+use Rattle.ground.specs.Areas.{laid, Wrote}
 
 length-laid : (out : List ℕ) (at : ℕ) (t : List ℕ) → at + length t ≤ length out → length (laid out at t) ≡ length out
 unfolding laid
