@@ -15,7 +15,7 @@ use Rattle.sheet.specs.Record.{Record, sheetOf, opened}
 use Rattle.sheet.specs.Calls.{openOf}
 use Rattle.sheet.specs.declared.Sheet.{Sheet}
 use Rattle.sheet.specs.declared.Answer.{Answer}
-use Rattle.histories.specs.declared.Call.the-variants as call
+use Rattle.sheet.specs.declared.Call.the-variants as call
 use Rattle.histories.specs.Histories.{Good}
 use Rattle.histories.proofs.Kept.{did-kept}
 use Rattle.histories.proofs.Goods.{good-after, good-opened}

@@ -14,7 +14,7 @@ use Rattle.sheet.specs.Limits.{mostMarks, marksOk}
 use Rattle.sheet.specs.Record.{Record, opened}
 use Rattle.sheet.specs.Sound.{sizeOf}
 use Rattle.listing.specs.Listing.{totalOf}
-use Rattle.histories.specs.declared.Call.the-variants as call
+use Rattle.sheet.specs.declared.Call.the-variants as call
 use Rattle.histories.specs.Histories.{numberOf, after}
 use Rattle.lines.specs.declared.Order.{Order}
 use Rattle.lines.specs.declared.Order.the-variants.{Enter, Leave, Receive, Withdraw, End, Unreadable}

@@ -7,12 +7,13 @@ use mathlib.Core.List.{List, [], _∷_, _++_}
 use lib.Dec.{eqb}
 use lib.ListN.{take}
 use Rattle.ground.specs.Areas.{Wrote}
-use Rattle.sheet.specs.Limits.{entries}
+use Rattle.sheet.specs.Limits.{mostMarks, entries}
 use Rattle.sheet.specs.Record.{Record, sheetOf, opened}
 use Rattle.sheet.specs.declared.Sheet.{Sheet}
 use Rattle.sheet.specs.declared.Answer.{Answer}
-use Rattle.histories.specs.declared.Call.the-variants as call
-use Rattle.histories.specs.Histories.{Good, didOf}
+use Rattle.sheet.specs.declared.Call.the-variants as call
+use Rattle.sheet.specs.Calls.{didOf}
+use Rattle.histories.specs.Histories.{Good}
 use Rattle.lines.specs.declared.Order.{Order}
 use Rattle.lines.specs.declared.Order.the-variants.{Enter, Leave, Receive, Withdraw, End, Unreadable}
 use Rattle.lines.specs.declared.First.{First}
@@ -118,10 +119,10 @@ told a = record { ends = false; number = a .number; sheet = a .sheet }
 
 -- an order on the sheet
 abbrev pub obeyedOf : Sheet → Order → Reply
-obeyedOf s (Enter c) = told (didOf s (call.Enter c))
-obeyedOf s (Leave c) = told (didOf s (call.Leave c))
-obeyedOf s (Receive c d) = told (didOf s (call.Receive c d))
-obeyedOf s (Withdraw c d) = told (didOf s (call.Withdraw c d))
+obeyedOf s (Enter c) = told (didOf mostMarks s (call.Enter c))
+obeyedOf s (Leave c) = told (didOf mostMarks s (call.Leave c))
+obeyedOf s (Receive c d) = told (didOf mostMarks s (call.Receive c d))
+obeyedOf s (Withdraw c d) = told (didOf mostMarks s (call.Withdraw c d))
 obeyedOf s End = record { ends = true; number = 0; sheet = s }
 obeyedOf s Unreadable = record { ends = false; number = 10; sheet = s }
 

@@ -7,13 +7,12 @@ ghost use Rattle.lines.specs.Taken.{rowOf, Fit};
 ghost use Rattle.desk.specs.Prints.{RowAsks};
 ghost use Rattle.desk.specs.States.{State, deskAt, start, At, Sound, cutOff, told, obeyedOf, isOver, FirstAnswered, EndedBy, FedBy, FinishedBy};
 use crate::page;
-use histories;
-use histories::Call;
 use lines;
 use lines::First;
 use lines::Line;
 use lines::Order;
 use sheet::Answer;
+use sheet::Call;
 use sheet::Sheet;
 
 pub enum Stage {
@@ -128,10 +127,10 @@ fn obeyed(sheet: Sheet, order: Order) -> Reply
     ensures { λ r. ⌜ r ≡ obeyedOf sheet order ⌝ }
 {
     match order {
-        Order::Enter(c) => replied(histories::did(sheet, Call::Enter(c))),
-        Order::Leave(c) => replied(histories::did(sheet, Call::Leave(c))),
-        Order::Receive(c, d) => replied(histories::did(sheet, Call::Receive(c, d))),
-        Order::Withdraw(c, d) => replied(histories::did(sheet, Call::Withdraw(c, d))),
+        Order::Enter(c) => replied(sheet.did(Call::Enter(c))),
+        Order::Leave(c) => replied(sheet.did(Call::Leave(c))),
+        Order::Receive(c, d) => replied(sheet.did(Call::Receive(c, d))),
+        Order::Withdraw(c, d) => replied(sheet.did(Call::Withdraw(c, d))),
         Order::End => Reply {
             ends: true,
             number: 0,

@@ -11,8 +11,8 @@ use Rattle.boxes.proofs.Sums.{sum-change, sum-le, sum-zero}
 use Rattle.tables.proofs.Changes.{plus}
 use Rattle.sheet.specs.Limits.{mostMarks, mostHeld, marksOk, amountOk}
 use Rattle.sheet.specs.Record.{Record, opened}
-use Rattle.histories.specs.declared.Call.{Call}
-use Rattle.histories.specs.declared.Call.the-variants.{Enter, Leave, Receive, Withdraw}
+use Rattle.sheet.specs.declared.Call.{Call}
+use Rattle.sheet.specs.declared.Call.the-variants.{Enter, Leave, Receive, Withdraw}
 use Rattle.histories.specs.Histories.{Good, numberOf, accepted, after}
 use Rattle.histories.proofs.Kept.{in-range, fit-amount}
 

@@ -12,20 +12,21 @@ use Rattle.ground.proofs.Cases.{if, below-or, same-or}
 use Rattle.tables.specs.Tables.{afresh}
 use Rattle.tables.proofs.Changes.{plus, minus, raised-afresh, lowered-afresh}
 use Rattle.tables.proofs.Entries.{afresh-ext}
-use Rattle.sheet.specs.Limits.{entries, amountOk}
+use Rattle.sheet.specs.Limits.{mostMarks, entries, amountOk}
 use Rattle.sheet.specs.Record.{Record, outOf, sheetOf}
 use Rattle.sheet.specs.Calls.{answered, changed, received, withdrawn}
 use Rattle.sheet.specs.declared.Sheet.{Sheet}
 use Rattle.sheet.specs.declared.Answer.{Answer}
 use Rattle.sheet.proofs.Tests.{boxes-fit}
-use Rattle.histories.specs.declared.Call.{Call}
-use Rattle.histories.specs.declared.Call.the-variants.{Enter, Leave, Receive, Withdraw}
-use Rattle.histories.specs.Histories.{didOf, Good, numberOf, accepted, after}
+use Rattle.sheet.specs.declared.Call.{Call}
+use Rattle.sheet.specs.declared.Call.the-variants.{Enter, Leave, Receive, Withdraw}
+use Rattle.sheet.specs.Calls.{didOf}
+use Rattle.histories.specs.Histories.{Good, numberOf, accepted, after}
 use Rattle.histories.proofs.Numbers.{enter-number, leave-number, receive-number, withdraw-number}
 
 -- an answer with the record's number, and the sheet of the record after the call
 abbrev pub Kept : Record → Call → Type 0
-Kept r k = _≡_ {A = Answer} (didOf (sheetOf entries r) k) (record { number = numberOf r k; sheet = sheetOf entries (after r k) })
+Kept r k = _≡_ {A = Answer} (didOf mostMarks (sheetOf entries r) k) (record { number = numberOf r k; sheet = sheetOf entries (after r k) })
 
 matched : (r a : Record) (n k : ℕ) (new : Sheet) → n ≡ k → (k ≡ 0 → new ≡ sheetOf entries a)
     → _≡_ {A = Answer} (answered n (sheetOf entries r) new) (record { number = k; sheet = sheetOf entries (cond (eqb k 0) a r) })

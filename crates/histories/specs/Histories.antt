@@ -9,20 +9,13 @@ use lib.Dec.{eqb, leb}
 use Rattle.boxes.specs.Sums.{sum, only}
 use Rattle.sheet.specs.Limits.{mostMarks, mostHeld, marksOk, amountOk}
 use Rattle.sheet.specs.Record.{Record}
-use Rattle.sheet.specs.Calls.{changeOf, receiveOf, withdrawOf}
+use Rattle.sheet.specs.Calls.{didOf}
 use Rattle.sheet.specs.declared.Sheet.{Sheet}
 use Rattle.sheet.specs.declared.Answer.{Answer}
 use Rattle.sheet.specs.declared.Value.{Value}
 use Rattle.lists.specs.Lists.{FirstShortest}
-use Rattle.histories.specs.declared.Call.{Call}
-use Rattle.histories.specs.declared.Call.the-variants.{Enter, Leave, Receive, Withdraw}
-
--- what the program does, by the contracts of its calls
-abbrev pub didOf : Sheet → Call → Answer
-didOf s (Enter c) = changeOf mostMarks true s c
-didOf s (Leave c) = changeOf mostMarks false s c
-didOf s (Receive c d) = receiveOf mostMarks s c d
-didOf s (Withdraw c d) = withdrawOf mostMarks s c d
+use Rattle.sheet.specs.declared.Call.{Call}
+use Rattle.sheet.specs.declared.Call.the-variants.{Enter, Leave, Receive, Withdraw}
 
 -- a record that a sheet can have: 1 to 5 marks, no combination that is none in the class, at most 4,000,000,000 seconds
 pub record Good (r : Record) : Type 0 where
@@ -62,11 +55,11 @@ numbersOf r (k ∷ ks) = numberOf r k ∷ numbersOf (after r k) ks
 -- what the program does in the same sequence: the sheet at the end, and the numbers
 unfoldable pub sheetAfter : Sheet → List Call → Sheet
 sheetAfter s [] = s
-sheetAfter s (k ∷ ks) = sheetAfter (didOf s k .sheet) ks
+sheetAfter s (k ∷ ks) = sheetAfter (didOf mostMarks s k .sheet) ks
 
 unfoldable pub answers : Sheet → List Call → List ℕ
 answers s [] = []
-answers s (k ∷ ks) = didOf s k .number ∷ answers (didOf s k .sheet) ks
+answers s (k ∷ ks) = didOf mostMarks s k .number ∷ answers (didOf mostMarks s k .sheet) ks
 
 -- the list of the record's class in a lent area: the number 0 with the length of the first shortest list, which stands at the front, and the bytes
 -- behind it as they were

@@ -13,8 +13,9 @@ use Rattle.sheet.specs.declared.Value.{Value}
 use Rattle.stored.specs.Answers.{Reads, Writes}
 use Rattle.stored.specs.Form.{form}
 use Rattle.stored.specs.declared.Read.{Read}
-use Rattle.histories.specs.declared.Call.{Call}
-use Rattle.histories.specs.Histories.{didOf, numberOf, after}
+use Rattle.sheet.specs.declared.Call.{Call}
+use Rattle.sheet.specs.Calls.{didOf}
+use Rattle.histories.specs.Histories.{numberOf, after}
 
 -- a call that changes the sheet, or a journey through the lent bytes `out`
 pub data Event : Type 0 where
@@ -23,7 +24,7 @@ pub data Event : Type 0 where
 
 -- what the program does, by the contracts of its calls: the number, and the sheet from then on. Where writing is refused the sheet stays where it is.
 pub data Happens (s : Sheet) : Event → ℕ → Sheet → Type 0 where
-  changed : (k : Call) → Happens s (change k) (didOf s k .number) (didOf s k .sheet)
+  changed : (k : Call) → Happens s (change k) (didOf mostMarks s k .number) (didOf mostMarks s k .sheet)
   stayed : {out later : List ℕ} {v : Value} → Writes mostMarks s out v later → (v .number ≡ 0 → ⊥) → Happens s (travel out) (v .number) s
   travelled : {out later : List ℕ} {v : Value} {a : Read} → Writes mostMarks s out v later → v .number ≡ 0
       → Reads mostMarks entries (take (v .value) later) a → Happens s (travel out) (a .number) (a .sheet)

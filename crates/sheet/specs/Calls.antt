@@ -1,7 +1,7 @@
 -- The calls that open and change a sheet: the number of 01's table, by its order of tests read top down, and the sheet that is left.
 -- Largest marks and a table's length are parameters.
 use Prim.Native.Nat.{ℕ, _+_, _-_, _^_}
-use mathlib.Core.Bool.{Bool, not, cond, _&&_}
+use mathlib.Core.Bool.{Bool, true, false, not, cond, _&&_}
 use mathlib.Core.List.{List}
 use lib.Dec.{eqb, leb, ltb}
 use Rattle.boxes.specs.Boxes.{freeCount}
@@ -9,6 +9,8 @@ use Rattle.tables.specs.Tables.{entry, own, raised, lowered, touched}
 use Rattle.sheet.specs.Limits.{marksOk, amountOk, mostHeld}
 use Rattle.sheet.specs.Record.{sheetOf, opened}
 use Rattle.sheet.specs.Sound.{ClassReady, classOf, sizeOf}
+use Rattle.sheet.specs.declared.Call.{Call}
+use Rattle.sheet.specs.declared.Call.the-variants.{Enter, Leave, Receive, Withdraw}
 use Rattle.sheet.specs.declared.Sheet.{Sheet}
 use Rattle.sheet.specs.declared.Answer.{Answer}
 use Rattle.sheet.specs.declared.Value.{Value}
@@ -85,6 +87,13 @@ withdrawn s c d = record { marks = s .marks; outside = s .outside; held = lowere
 
 abbrev pub withdrawOf : ℕ → Sheet → ℕ → ℕ → Answer
 withdrawOf most s c d = answered (withdrawNo most (s .marks) (s .held) c d) s (withdrawn s c d)
+
+-- any of these calls
+abbrev pub didOf : ℕ → Sheet → Call → Answer
+didOf most s (Enter c) = changeOf most true s c
+didOf most s (Leave c) = changeOf most false s c
+didOf most s (Receive c d) = receiveOf most s c d
+didOf most s (Withdraw c d) = withdrawOf most s c d
 
 -- class size: 7 as for the list, else the number of combinations in the class that the counts tell
 pub data ClassSize (most : ℕ) (s : Sheet) : Value → Type 0 where

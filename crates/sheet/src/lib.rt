@@ -6,7 +6,7 @@ ghost use Prim.Native.Nat.{_≤_};
 ghost use Rattle.tables.specs.Tables.{entry, afresh};
 ghost use Rattle.sheet.specs.Limits.{mostMarks, entries, mostHeld, mostAmount};
 ghost use Rattle.sheet.specs.Record.{sheetFrom, sheetOf, opened, Addable};
-ghost use Rattle.sheet.specs.Calls.{openOf, changeOf, receiveOf, withdrawOf, ClassSize};
+ghost use Rattle.sheet.specs.Calls.{openOf, changeOf, receiveOf, withdrawOf, didOf, ClassSize};
 
 pub mod numbers;
 pub mod soundness;
@@ -18,6 +18,14 @@ pub struct Sheet {
     pub marks: usize,
     pub outside: [u32; Sheet::ENTRIES],
     pub held: [u32; Sheet::ENTRIES],
+}
+
+// A call that changes a sheet, with any numbers.
+pub enum Call {
+    Enter(usize),
+    Leave(usize),
+    Receive(usize, u64),
+    Withdraw(usize, u64),
 }
 
 // The number of a call that opens or changes a sheet, and the sheet that is left.
@@ -185,6 +193,18 @@ impl Sheet {
             held,
         };
         Answer { number: 0, sheet }
+    }
+
+    // The call, made on the sheet: its number, and the sheet that is left.
+    pub fn did(self, call: Call) -> Answer
+        ensures { λ r. ⌜ r ≡ didOf mostMarks self call ⌝ }
+    {
+        match call {
+            Call::Enter(c) => self.enter(c),
+            Call::Leave(c) => self.leave(c),
+            Call::Receive(c, d) => self.receive(c, d),
+            Call::Withdraw(c, d) => self.withdraw(c, d),
+        }
     }
 
     // How many combinations are in the class.

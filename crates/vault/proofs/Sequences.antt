@@ -20,9 +20,10 @@ use Rattle.stored.specs.Fields.{good}
 use Rattle.stored.specs.Form.{form}
 use Rattle.stored.specs.declared.Read.{Read}
 use Rattle.stored.proofs.Trips.{form-same-sheet, writes-done}
-use Rattle.histories.specs.Histories.{didOf, Good, numberOf, after}
+use Rattle.sheet.specs.Calls.{didOf}
+use Rattle.histories.specs.Histories.{Good, numberOf, after}
 use Rattle.histories.specs.Travels.{eventNumber, travel}
-use Rattle.histories.specs.declared.Call.{Call}
+use Rattle.sheet.specs.declared.Call.{Call}
 use Rattle.histories.proofs.Kept.{did-kept}
 use Rattle.histories.proofs.Goods.{good-after, good-opened}
 use Rattle.histories.proofs.Travels.{form-kept, written-number, five}
@@ -62,12 +63,12 @@ put-kept r g k {out} (Put.written {v = v} z w) =
       left = λ n. untouched w n;
     }
 
-changes-kept : (r : Record) → Good r → (k : Call) {out : List ℕ} {reply : Reply} {later : List ℕ} → Changes (λ s. didOf s k) (form r) out reply later
+changes-kept : (r : Record) → Good r → (k : Call) {out : List ℕ} {reply : Reply} {later : List ℕ} → Changes (λ s. didOf mostMarks s k) (form r) out reply later
     → Kept r k out reply later
 changes-kept r g k (Changes.unread u) = absurd (u .bad (ap (λ (a : Read). a .number) (reads-form r g (u .reads))))
 changes-kept r g k {out} {reply} {later} (Changes.called {s = s} t p) =
     let is : s ≡ sheetOf entries r = sym (t .sheet) ∙ ap (λ (a : Read). a .sheet) (reads-form r g (t .reads)) in
-    put-kept r g k (subst (λ (a : Answer). Put a out reply later) (ap (λ (x : Sheet). didOf x k) is ∙ did-kept r g k) p)
+    put-kept r g k (subst (λ (a : Answer). Put a out reply later) (ap (λ (x : Sheet). didOf mostMarks x k) is ∙ did-kept r g k) p)
 
 good-entry : (r : Record) → Good r → (e : Entry) → Good (afterEntry r e)
 good-entry r g (entry k out) =
@@ -81,12 +82,12 @@ from : (r : Record) → Good r → {t : List ℕ} {es : List Entry} {ns z : List
 unfolding entryNumbers afterEntries
 from r g q rests = (refl, q)
 from r g q (accepted {out = out} {later = later} {k = k} {r = reply} c d l) =
-    let w = changes-kept r g k (subst (λ (x : List ℕ). Changes (λ s. didOf s k) x out reply later) q c) in
+    let w = changes-kept r g k (subst (λ (x : List ℕ). Changes (λ s. didOf mostMarks s k) x out reply later) q c) in
     let same : afterEntry r (entry k out) ≡ after r k = ap (λ (t : Bool). cond t (after r k) r) (eq-eqb (entryNumber r (entry k out)) 0 (sym (w .number) ∙ d)) in
     let i = from (afterEntry r (entry k out)) (good-entry r g (entry k out)) (w .done d ∙ ap form (sym same)) l in
     (ap₂ (λ (x : ℕ) (y : List ℕ). x ∷ y) (w .number) (i .0), i .1)
 from r g q (refused {out = out} {later = later} {k = k} {r = reply} c d l) =
-    let w = changes-kept r g k (subst (λ (x : List ℕ). Changes (λ s. didOf s k) x out reply later) q c) in
+    let w = changes-kept r g k (subst (λ (x : List ℕ). Changes (λ s. didOf mostMarks s k) x out reply later) q c) in
     let same : afterEntry r (entry k out) ≡ r = ap (λ (t : Bool). cond t (after r k) r) (ne-eqb (entryNumber r (entry k out)) 0 (λ z. d (w .number ∙ z))) in
     let i = from (afterEntry r (entry k out)) (good-entry r g (entry k out)) (q ∙ ap form (sym same)) l in
     (ap₂ (λ (x : ℕ) (y : List ℕ). x ∷ y) (w .number) (i .0), i .1)
