@@ -21,6 +21,7 @@ use Rattle.sheet.specs.Sound.{ClassReady, Ready, recordOf, sizeOf}
 use Rattle.sheet.specs.Calls.{ClassSize}
 use Rattle.sheet.specs.declared.Value.{Value}
 use Rattle.sheet.proofs.Kept.{class-sound, class-told, times-sound}
+use Rattle.sheet.proofs.Keeps.{class-of-ready}
 use Rattle.sheet.proofs.Tests.{boxes-fit}
 use Rattle.listing.specs.Listing.{totalOf, Searched, Listed, Totalled}
 use Rattle.histories.specs.Histories.{Good, Given}
@@ -45,15 +46,15 @@ module _ (r : Record) (good : Good r) where
 
   -- the sheet is fit for every call, and tells the class of the record
 
-  pub ready-afresh : Ready mostMarks (r .marks) (sheetOf entries r .outside) (sheetOf entries r .held)
+  pub ready-afresh : Ready mostMarks (sheetOf entries r)
   ready-afresh = record {
     marks = good .marks;
     class = class-sound 243 (r .marks) room (r .class);
     times = times-sound 243 (r .marks) room (r .times) (good .times);
   }
 
-  class-ready : ClassReady mostMarks (r .marks) (sheetOf entries r .outside)
-  class-ready = record { marks = good .marks; class = class-sound 243 (r .marks) room (r .class) }
+  class-ready : ClassReady mostMarks (sheetOf entries r)
+  class-ready = class-of-ready ready-afresh
 
   pub class-afresh : recordOf (sheetOf entries r) .class ≡ r .class
   class-afresh = fun-ext (λ c. below-or c (2 ^ r .marks)

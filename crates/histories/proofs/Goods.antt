@@ -8,7 +8,6 @@ use borrow.Author.Tests.{eqb-true, leb-true, eq-eqb, ne-eqb}
 use Rattle.boxes.specs.Sums.{sum, only}
 use Rattle.ground.proofs.Cases.{if, clash, same-or, and-left}
 use Rattle.boxes.proofs.Sums.{sum-change, sum-le, sum-zero}
-use Rattle.tables.proofs.Changes.{plus}
 use Rattle.sheet.specs.Limits.{mostMarks, mostHeld, marksOk, amountOk}
 use Rattle.sheet.specs.Record.{Record, opened}
 use Rattle.sheet.specs.declared.Call.{Call}
@@ -36,7 +35,7 @@ good-accepted r good (Leave c) z = record {
 good-accepted r good (Receive c d) z =
     let w = in-range (r .marks) c _ z in
     let fit = leb-true (sum (2 ^ r .marks) (r .times) + d) mostHeld (fit-amount 8 (omega arith) (amountOk d) _ (w .1)) in
-    let more = sum-change (2 ^ r .marks) (r .times) (plus c d (r .times)) c d (w .0) (λ x l n. rw (ne-eqb x c n) (omega arith)) (rw (eq-eqb c c refl)) in
+    let more = sum-change (2 ^ r .marks) (r .times) (λ x. r .times x + only (eqb x c) d) c d (w .0) (λ x l n. rw (ne-eqb x c n) (omega arith)) (rw (eq-eqb c c refl)) in
     record { marks = good .marks; class = good .class; times = omega arith }
 good-accepted r good (Withdraw c d) z = record {
   marks = good .marks;

@@ -1,40 +1,25 @@
 -- Demand 3, one call: on the sheet worked out afresh from a record, the program answers by the number worked out from the record alone, and
--- leaves the sheet worked out afresh from the record after the call.
-use Prim.Native.Nat.{ℕ, _+_, _-_, _^_, _<_, _≤_}
-use mathlib.Core.Path.{_≡_, refl, sym, _∙_, ap}
+-- leaves the sheet worked out afresh from the record after the call: the call shifts each quantity of the record as it shifts the table.
+use Prim.Native.Nat.{ℕ, _+_, _-_, _^_, _<_}
+use mathlib.Core.Path.{_≡_, refl, sym, _∙_, ap, ap₂}
 use mathlib.Core.Bool.{Bool, true, false, not, cond, _&&_, _||_}
-use mathlib.Core.List.{List}
 use native.Mathlib.Omega.{arith}
 use lib.Dec.{eqb, leb}
 use borrow.Author.Tests.{leb-true, not-false, eq-eqb, ne-eqb, le-leb, lt-leb}
-use Rattle.boxes.specs.Sums.{only}
 use Rattle.ground.proofs.Cases.{if, below-or, same-or}
-use Rattle.tables.specs.Tables.{afresh}
-use Rattle.tables.proofs.Changes.{plus, minus, raised-afresh, lowered-afresh}
-use Rattle.tables.proofs.Entries.{afresh-ext}
+use Rattle.boxes.specs.Sums.{only}
+use Rattle.tables.proofs.Shifts.{ShiftsAt, stays-at, moved-afresh}
 use Rattle.sheet.specs.Limits.{mostMarks, entries, amountOk}
-use Rattle.sheet.specs.Record.{Record, outOf, sheetOf}
-use Rattle.sheet.specs.Calls.{answered, changed, received, withdrawn}
+use Rattle.sheet.specs.Record.{Record, Table, outside-counts, held-seconds, quantity, outOf, sheetWith, sheetFrom, sheetOf}
+use Rattle.sheet.specs.Calls.{answered, classShift, amountShift, moveOf, shiftIn, movedSheet, didOf}
+use Rattle.sheet.specs.declared.Call.{Call}
+use Rattle.sheet.specs.declared.Call.the-variants.{Enter, Leave, Receive, Withdraw}
+use Rattle.sheet.specs.declared.Move.{Move}
 use Rattle.sheet.specs.declared.Sheet.{Sheet}
 use Rattle.sheet.specs.declared.Answer.{Answer}
 use Rattle.sheet.proofs.Tests.{boxes-fit}
-use Rattle.sheet.specs.declared.Call.{Call}
-use Rattle.sheet.specs.declared.Call.the-variants.{Enter, Leave, Receive, Withdraw}
-use Rattle.sheet.specs.Calls.{didOf}
 use Rattle.histories.specs.Histories.{Good, numberOf, accepted, after}
-use Rattle.histories.proofs.Numbers.{enter-number, leave-number, receive-number, withdraw-number}
-
--- an answer with the record's number, and the sheet of the record after the call
-abbrev pub Kept : Record → Call → Type 0
-Kept r k = _≡_ {A = Answer} (didOf mostMarks (sheetOf entries r) k) (record { number = numberOf r k; sheet = sheetOf entries (after r k) })
-
-matched : (r a : Record) (n k : ℕ) (new : Sheet) → n ≡ k → (k ≡ 0 → new ≡ sheetOf entries a)
-    → _≡_ {A = Answer} (answered n (sheetOf entries r) new) (record { number = k; sheet = sheetOf entries (cond (eqb k 0) a r) })
-matched r a n k new e same =
-    ap (λ (x : ℕ). answered x (sheetOf entries r) new) e ∙
-    same-or k 0
-    (λ z. rw (eq-eqb k 0 z) (ap (λ (s : Sheet). record { number = k; sheet = s }) (same z)))
-    (λ d. rw (ne-eqb k 0 d))
+use Rattle.histories.proofs.Numbers.{number-afresh}
 
 -- what an accepted call was judged by
 
@@ -52,60 +37,78 @@ fit-amount last l true true z = refl
 fit-amount last l true false z = absurd (omega arith)
 fit-amount last l false t z = absurd (omega arith)
 
--- the class with c in it, and with c out of it, as what is counted
+pub call-low : (r : Record) (k : Call) → numberOf r k ≡ 0 → moveOf k .at < 2 ^ r .marks
+call-low r (Enter c) z = in-range (r .marks) c _ z .0
+call-low r (Leave c) z = in-range (r .marks) c _ z .0
+call-low r (Receive c d) z = in-range (r .marks) c _ z .0
+call-low r (Withdraw c d) z = in-range (r .marks) c _ z .0
 
-enter-counted : (class : ℕ → Bool) (c x : ℕ) → class c ≡ false → minus c 1 (outOf class) x ≡ outOf (λ y. class y || eqb y c) x
-enter-counted class c x out =
-    same-or x c
-    (λ q. rw (q, eq-eqb c c refl, out))
-    (λ d. rw (ne-eqb x c d) (or-no (class x)))
-  where
-    or-no : (t : Bool) → only (not t) 1 - 0 ≡ only (not (t || false)) 1
-    or-no true = refl
-    or-no false = refl
+-- each quantity of the record is shifted at the combination, and nowhere else
 
-leave-counted : (class : ℕ → Bool) (c x : ℕ) → class c ≡ true → plus c 1 (outOf class) x ≡ outOf (λ y. class y && not (eqb y c)) x
-leave-counted class c x inside =
-    same-or x c
-    (λ q. rw (q, eq-eqb c c refl, inside))
-    (λ d. rw (ne-eqb x c d) (and-yes (class x)))
-  where
-    and-yes : (t : Bool) → only (not t) 1 + 0 ≡ only (not (t && true)) 1
-    and-yes true = refl
-    and-yes false = refl
+or-none : (t e : Bool) → e ≡ false → (t || e) ≡ t
+or-none true e h = refl
+or-none false e h = h
 
-module _ (r : Record) (good : Good r) where
-  room : 3 ^ r .marks ≤ 243
-  room = boxes-fit (r .marks) (good .marks)
+and-none : (t e : Bool) → e ≡ false → (t && not e) ≡ t
+and-none true e h = ap not h
+and-none false e h = refl
 
-  enter-kept : (c : ℕ) → Kept r (Enter c)
-  enter-kept c = matched r (accepted r (Enter c)) _ _ (changed true (sheetOf entries r) c) (enter-number 5 243 (r .marks) room (good .marks) c (r .class)) (λ z.
-      let w = in-range (r .marks) c (cond (r .class c) 3 0) z in
-      let out = not-three (r .class c) (w .1) in
-      ap (λ (t : List ℕ). record { marks = r .marks; outside = t; held = afresh 243 (r .marks) (r .times) })
-      (lowered-afresh 243 (r .marks) c 1 (outOf (r .class)) (w .0) (omega (arith, ap (λ (t : Bool). only (not t) 1) out))
-      ∙ afresh-ext 243 (r .marks) _ _ (λ x l. enter-counted (r .class) c x out)))
+module _ (r : Record) (c : ℕ) where
+  enter-shifts : r .class c ≡ false → ShiftsAt (r .marks) c (classShift true) (outOf (r .class)) (outOf (accepted r (Enter c) .class))
+  enter-shifts out = record {
+    here = rw (eq-eqb c c refl, out);
+    others = λ x l n. ap (λ (t : Bool). only (not t) 1) (or-none (r .class x) (eqb x c) (ne-eqb x c n));
+  }
 
-  leave-kept : (c : ℕ) → Kept r (Leave c)
-  leave-kept c = matched r (accepted r (Leave c)) _ _ (changed false (sheetOf entries r) c) (leave-number 5 243 (r .marks) room (good .marks) c (r .class)) (λ z.
-      let w = in-range (r .marks) c (cond (not (r .class c)) 3 0) z in
-      let inside = not-false (r .class c) (not-three (not (r .class c)) (w .1)) in
-      ap (λ (t : List ℕ). record { marks = r .marks; outside = t; held = afresh 243 (r .marks) (r .times) })
-      (raised-afresh 243 (r .marks) c 1 (outOf (r .class)) (w .0) ∙ afresh-ext 243 (r .marks) _ _ (λ x l. leave-counted (r .class) c x inside)))
+  leave-shifts : r .class c ≡ true → ShiftsAt (r .marks) c (classShift false) (outOf (r .class)) (outOf (accepted r (Leave c) .class))
+  leave-shifts inside = record {
+    here = rw (eq-eqb c c refl, inside);
+    others = λ x l n. ap (λ (t : Bool). only (not t) 1) (and-none (r .class x) (eqb x c) (ne-eqb x c n));
+  }
 
-  receive-kept : (c d : ℕ) → Kept r (Receive c d)
-  receive-kept c d = matched r (accepted r (Receive c d)) _ _ (received (sheetOf entries r) c d) (receive-number 5 243 (r .marks) room (good .marks) c (r .times) d) (λ z.
-      ap (λ (t : List ℕ). record { marks = r .marks; outside = afresh 243 (r .marks) (outOf (r .class)); held = t })
-      (raised-afresh 243 (r .marks) c d (r .times) (in-range (r .marks) c _ z .0)))
+  receive-shifts : (d : ℕ) → ShiftsAt (r .marks) c (amountShift true d) (r .times) (accepted r (Receive c d) .times)
+  receive-shifts d = record { here = rw (eq-eqb c c refl); others = λ x l n. rw (ne-eqb x c n) (omega arith) }
 
-  withdraw-kept : (c d : ℕ) → Kept r (Withdraw c d)
-  withdraw-kept c d = matched r (accepted r (Withdraw c d)) _ _ (withdrawn (sheetOf entries r) c d) (withdraw-number 5 243 (r .marks) room (good .marks) c (r .times) d) (λ z.
-      let w = in-range (r .marks) c _ z in
-      ap (λ (t : List ℕ). record { marks = r .marks; outside = afresh 243 (r .marks) (outOf (r .class)); held = t })
-      (lowered-afresh 243 (r .marks) c d (r .times) (w .0) (leb-true d (r .times c) (fit-amount 9 (omega arith) (amountOk d) _ (w .1)))))
+  withdraw-shifts : (d : ℕ) → leb d (r .times c) ≡ true → ShiftsAt (r .marks) c (amountShift false d) (r .times) (accepted r (Withdraw c d) .times)
+  withdraw-shifts d h = record { here = rw (eq-eqb c c refl) (omega (arith, leb-true d (r .times c) h)); others = λ x l n. rw (ne-eqb x c n) (omega arith) }
 
-pub did-kept : (r : Record) → Good r → (k : Call) → Kept r k
-did-kept r good (Enter c) = enter-kept r good c
-did-kept r good (Leave c) = leave-kept r good c
-did-kept r good (Receive c d) = receive-kept r good c d
-did-kept r good (Withdraw c d) = withdraw-kept r good c d
+quantity-shifts : (r : Record) (k : Call) → numberOf r k ≡ 0 → (t : Table)
+    → ShiftsAt (r .marks) (moveOf k .at) (shiftIn t (moveOf k)) (quantity t r) (quantity t (accepted r k))
+quantity-shifts r (Enter c) z outside-counts = enter-shifts r c (not-three (r .class c) (in-range (r .marks) c _ z .1))
+quantity-shifts r (Enter c) z held-seconds = stays-at (r .marks) c (r .times)
+quantity-shifts r (Leave c) z outside-counts = leave-shifts r c (not-false (r .class c) (not-three (not (r .class c)) (in-range (r .marks) c _ z .1)))
+quantity-shifts r (Leave c) z held-seconds = stays-at (r .marks) c (r .times)
+quantity-shifts r (Receive c d) z outside-counts = stays-at (r .marks) c (outOf (r .class))
+quantity-shifts r (Receive c d) z held-seconds = receive-shifts r c d
+quantity-shifts r (Withdraw c d) z outside-counts = stays-at (r .marks) c (outOf (r .class))
+quantity-shifts r (Withdraw c d) z held-seconds = withdraw-shifts r c d (fit-amount 9 (omega arith) (amountOk d) _ (in-range (r .marks) c _ z .1))
+
+-- so the moved sheet is the one worked out afresh from the record after the call
+module _ (n : ℕ) (v : Move) (r q : Record) where
+  moved-sheet : v .at < 2 ^ r .marks → ((t : Table) → ShiftsAt (r .marks) (v .at) (shiftIn t v) (quantity t r) (quantity t q))
+      → movedSheet v (sheetOf n r) ≡ sheetFrom n (r .marks) (quantity outside-counts q) (quantity held-seconds q)
+  moved-sheet low h =
+      ap₂ (sheetWith (r .marks))
+      (moved-afresh n (r .marks) (v .at) (v .outside) _ _ low (h outside-counts))
+      (moved-afresh n (r .marks) (v .at) (v .held) _ _ low (h held-seconds))
+
+same-marks : (n : ℕ) (r : Record) (k : Call) → sheetFrom n (r .marks) (quantity outside-counts (accepted r k)) (quantity held-seconds (accepted r k)) ≡ sheetOf n (accepted r k)
+same-marks n r (Enter c) = refl
+same-marks n r (Leave c) = refl
+same-marks n r (Receive c d) = refl
+same-marks n r (Withdraw c d) = refl
+
+-- an answer with the record's number, and the sheet of the record after the call
+matched : (r a : Record) (n k : ℕ) (new : Sheet) → n ≡ k → (k ≡ 0 → new ≡ sheetOf entries a)
+    → _≡_ {A = Answer} (answered n (sheetOf entries r) new) (record { number = k; sheet = sheetOf entries (cond (eqb k 0) a r) })
+matched r a n k new e same =
+    ap (λ (x : ℕ). answered x (sheetOf entries r) new) e ∙
+    same-or k 0
+    (λ z. rw (eq-eqb k 0 z) (ap (λ (s : Sheet). record { number = k; sheet = s }) (same z)))
+    (λ d. rw (ne-eqb k 0 d))
+
+pub did-kept : (r : Record) → Good r → (k : Call)
+    → _≡_ {A = Answer} (didOf mostMarks (sheetOf entries r) k) (record { number = numberOf r k; sheet = sheetOf entries (after r k) })
+did-kept r good k =
+    matched r (accepted r k) _ (numberOf r k) (movedSheet (moveOf k) (sheetOf entries r)) (number-afresh entries r (boxes-fit (r .marks) (good .marks)) (good .marks) k)
+    (λ z. moved-sheet entries (moveOf k) r (accepted r k) (call-low r k z) (quantity-shifts r k z) ∙ same-marks entries r k)

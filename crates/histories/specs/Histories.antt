@@ -8,7 +8,7 @@ use lib.ListN.{length, drop}
 use lib.Dec.{eqb, leb}
 use Rattle.boxes.specs.Sums.{sum, only}
 use Rattle.sheet.specs.Limits.{mostMarks, mostHeld, marksOk, amountOk}
-use Rattle.sheet.specs.Record.{Record}
+use Rattle.sheet.specs.Record.{Record, withClass, withTimes}
 use Rattle.sheet.specs.Calls.{didOf}
 use Rattle.sheet.specs.declared.Sheet.{Sheet}
 use Rattle.sheet.specs.declared.Answer.{Answer}
@@ -33,10 +33,10 @@ numberOf r (Withdraw c d) = cond (leb (2 ^ r .marks) c) 2 (cond (not (amountOk d
 
 -- the record after an accepted call
 abbrev pub accepted : Record → Call → Record
-accepted r (Enter c) = record { marks = r .marks; class = λ x. r .class x || eqb x c; times = r .times }
-accepted r (Leave c) = record { marks = r .marks; class = λ x. r .class x && not (eqb x c); times = r .times }
-accepted r (Receive c d) = record { marks = r .marks; class = r .class; times = λ x. r .times x + only (eqb x c) d }
-accepted r (Withdraw c d) = record { marks = r .marks; class = r .class; times = λ x. r .times x - only (eqb x c) d }
+accepted r (Enter c) = withClass (λ x. r .class x || eqb x c) r
+accepted r (Leave c) = withClass (λ x. r .class x && not (eqb x c)) r
+accepted r (Receive c d) = withTimes (λ x. r .times x + only (eqb x c) d) r
+accepted r (Withdraw c d) = withTimes (λ x. r .times x - only (eqb x c) d) r
 
 -- and after any call: a refused one leaves it
 abbrev pub after : Record → Call → Record

@@ -26,12 +26,12 @@ pub data Searched (m : ℕ) (class : ℕ → Bool) (area : List ℕ) : Value →
 
 -- what `list` answers and leaves in the lent area: 7, 5, and then what the search finds for the class that the counts tell
 pub data Listed (most : ℕ) (s : Sheet) (area : List ℕ) : Value → List ℕ → Type 0 where
-  spoiled : (ClassReady most (s .marks) (s .outside) → ⊥) → Listed most s area (record { number = 7; value = 0 }) area
-  short : ClassReady most (s .marks) (s .outside) → length area < 2 ^ s .marks → Listed most s area (record { number = 5; value = 0 }) area
-  searched : {r : Value} {later : List ℕ} → ClassReady most (s .marks) (s .outside) → 2 ^ s .marks ≤ length area
+  spoiled : (ClassReady most s → ⊥) → Listed most s area (record { number = 7; value = 0 }) area
+  short : ClassReady most s → length area < 2 ^ s .marks → Listed most s area (record { number = 5; value = 0 }) area
+  searched : {r : Value} {later : List ℕ} → ClassReady most s → 2 ^ s .marks ≤ length area
       → Searched (s .marks) (recordOf s .class) area r later → Listed most s area r later
 
 -- what `total` answers: 7, or else the seconds held in the class
 pub data Totalled (most : ℕ) (s : Sheet) : Value → Type 0 where
-  spoiled : (Ready most (s .marks) (s .outside) (s .held) → ⊥) → Totalled most s (record { number = 7; value = 0 })
-  told : Ready most (s .marks) (s .outside) (s .held) → Totalled most s (record { number = 0; value = totalOf (recordOf s) })
+  spoiled : (Ready most s → ⊥) → Totalled most s (record { number = 7; value = 0 })
+  told : Ready most s → Totalled most s (record { number = 0; value = totalOf (recordOf s) })

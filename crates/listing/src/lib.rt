@@ -3,22 +3,20 @@ ghost use mathlib.Core.Path.{_≡_};
 ghost use Prim.Native.Nat.{_^_, _<_, _≤_};
 ghost use lib.ListN.{length};
 ghost use Rattle.sheet.specs.Limits.{mostMarks, entries};
-ghost use Rattle.sheet.specs.Sound.{classOf};
+ghost use Rattle.sheet.specs.Sound.{ClassReady, Ready, classOf, recordOf};
 ghost use Rattle.boxes.specs.Sums.{sum};
 ghost use Rattle.tables.specs.Tables.{own};
 ghost use Rattle.seek.specs.Answer.{has};
-ghost use Rattle.listing.specs.Listing.{taken, Searched, Listed, Totalled};
+ghost use Rattle.listing.specs.Listing.{taken, totalOf, Searched, Listed, Totalled};
 use boxes;
-use print;
 use seek;
 use seek::Found;
-use sheet;
 use sheet::Sheet;
 use sheet::Value;
 
 // The class that the counts tell, a bit for each combination.
 fn class_bits(m: usize, outside: &[u32]) -> u32
-    requires { ⌜ (m ≤ 5) × (entries ≤ length (now outside)) ⌝ }
+    requires { ⌜ (m ≤ mostMarks) × (entries ≤ length (now outside)) ⌝ }
     ensures { λ r. ⌜ (r < 2 ^ (2 ^ m)) × (has r ≡ classOf m (now (outside .entry))) ⌝ }
 {
     let n = boxes::power2(m);
@@ -41,7 +39,7 @@ fn own_area() -> [u8; 32]
 
 // The first shortest list of the class of m marks that the counts tell. The search has an area of its own; the lent one gets the finished list.
 fn searched(m: usize, outside: &[u32], area: &mut [u8]) -> Value
-    requires { ⌜ (m ≤ 5) × (entries ≤ length (now outside)) × (2 ^ m ≤ length (now area)) ⌝ }
+    requires { ⌜ (m ≤ mostMarks) × (entries ≤ length (now outside)) × (2 ^ m ≤ length (now area)) ⌝ }
     ensures { λ r. ⌜ Searched m (classOf m (now (outside .entry))) (now (area .entry)) r (now (area .exit)) ⌝ }
 {
     let class = class_bits(m, outside);
@@ -62,17 +60,13 @@ fn searched(m: usize, outside: &[u32], area: &mut [u8]) -> Value
     }
 }
 
-pub fn list(sheet: Sheet, area: &mut [u8]) -> Value
+// The list of a sheet whose class table is sound.
+pub fn list_sound(sheet: Sheet, area: &mut [u8]) -> Value
+    requires { ⌜ ClassReady mostMarks sheet ⌝ }
     ensures { λ r. ⌜ Listed mostMarks sheet (now (area .entry)) r (now (area .exit)) ⌝ }
 {
     let m = sheet.marks;
     let outside = sheet.outside;
-    if !sheet::soundness::class_ready(m, &outside) {
-        return Value {
-            number: 7,
-            value: 0,
-        };
-    }
     if area.len() < boxes::power2(m) {
         return Value {
             number: 5,
@@ -82,9 +76,22 @@ pub fn list(sheet: Sheet, area: &mut [u8]) -> Value
     searched(m, &outside, area)
 }
 
+// The shortest list of the sheet's class, in the lent area: its length.
+pub fn list(sheet: Sheet, area: &mut [u8]) -> Value
+    ensures { λ r. ⌜ Listed mostMarks sheet (now (area .entry)) r (now (area .exit)) ⌝ }
+{
+    if !sheet.class_ready() {
+        return Value {
+            number: 7,
+            value: 0,
+        };
+    }
+    list_sound(sheet, area)
+}
+
 // What the combination c adds to the class total: its seconds, if it is in the class.
 fn seconds_of(m: usize, c: usize, outside: &[u32], held: &[u32]) -> u64
-    requires { ⌜ (m ≤ 5) × (c < 2 ^ m) × (entries ≤ length (now outside)) × (entries ≤ length (now held)) ⌝ }
+    requires { ⌜ (m ≤ mostMarks) × (c < 2 ^ m) × (entries ≤ length (now outside)) × (entries ≤ length (now held)) ⌝ }
     ensures { λ r. ⌜ (r ≡ taken (classOf m (now (outside .entry))) (own m (now (held .entry))) c) × (r < 2 ^ 32) ⌝ }
 {
     let at = boxes::single(m, c);
@@ -96,7 +103,7 @@ fn seconds_of(m: usize, c: usize, outside: &[u32], held: &[u32]) -> u64
 
 // The seconds held in the class of m marks.
 fn in_class(m: usize, outside: &[u32], held: &[u32]) -> u64
-    requires { ⌜ (m ≤ 5) × (entries ≤ length (now outside)) × (entries ≤ length (now held)) ⌝ }
+    requires { ⌜ (m ≤ mostMarks) × (entries ≤ length (now outside)) × (entries ≤ length (now held)) ⌝ }
     ensures { λ r. ⌜ r ≡ sum (2 ^ m) (taken (classOf m (now (outside .entry))) (own m (now (held .entry)))) ⌝ }
 {
     let n = boxes::power2(m);
@@ -107,13 +114,22 @@ fn in_class(m: usize, outside: &[u32], held: &[u32]) -> u64
     total
 }
 
-pub fn total(sheet: Sheet) -> Value
-    ensures { λ r. ⌜ Totalled mostMarks sheet r ⌝ }
+// The total of a sound sheet.
+pub fn total_sound(sheet: Sheet) -> u64
+    requires { ⌜ Ready mostMarks sheet ⌝ }
+    ensures { λ r. ⌜ r ≡ totalOf (recordOf sheet) ⌝ }
 {
     let m = sheet.marks;
     let outside = sheet.outside;
     let held = sheet.held;
-    if !sheet::soundness::ready(m, &outside, &held) {
+    in_class(m, &outside, &held)
+}
+
+// The seconds held in the sheet's class.
+pub fn total(sheet: Sheet) -> Value
+    ensures { λ r. ⌜ Totalled mostMarks sheet r ⌝ }
+{
+    if !sheet.ready() {
         return Value {
             number: 7,
             value: 0,
@@ -121,6 +137,6 @@ pub fn total(sheet: Sheet) -> Value
     }
     Value {
         number: 0,
-        value: in_class(m, &outside, &held),
+        value: total_sound(sheet),
     }
 }

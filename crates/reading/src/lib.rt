@@ -35,7 +35,7 @@ pub fn read(bytes: &[u8]) -> Read
         return refused(10, 0);
     }
     let m = fields::wide(bytes[0]);
-    if !sheet::numbers::marks_ok(m) {
+    if !sheet::marks_ok(m) {
         return refused(1, 0);
     }
     let first = class::section(bytes, 1, m);

@@ -1,15 +1,20 @@
--- One accepted change alters the entries of exactly the boxes that contain its combination, whatever the sheet.
+-- One accepted call alters the entries of exactly the boxes that contain its combination, whatever the sheet.
 use Prim.Native.Nat.{ℕ}
 use mathlib.Core.Path.{_≡_, refl, sym, ap, subst}
-use mathlib.Core.Bool.{Bool, true, false, cond}
-use native.Mathlib.Omega.{arith}
+use mathlib.Core.Bool.{Bool, cond}
 use borrow.Author.Tests.{ne-eqb}
 use Rattle.ground.proofs.Cases.{same-or}
-use Rattle.tables.proofs.Changes.{raised-differ, lowered-differ}
+use Rattle.tables.specs.Tables.{moved, Shifted}
+use Rattle.tables.proofs.Shifts.{moved-shifted}
+use Rattle.sheet.specs.declared.Call.{Call}
+use Rattle.sheet.specs.declared.Move.{Move}
 use Rattle.sheet.specs.declared.Sheet.{Sheet}
-use Rattle.sheet.specs.Calls.{answered, changed, changeOf, received, receiveOf, withdrawn, withdrawOf}
-use Rattle.sheet.specs.Promises.{OneInClass, SecondsIn}
-use Rattle.sheet.proofs.Tests.{changes, accepted, amount-some, enter-fits, withdraw-fits}
+use Rattle.sheet.specs.Limits.{mostMarks}
+use Rattle.sheet.specs.Record.{Table, outside-counts, held-seconds, kept}
+use Rattle.sheet.specs.Calls.{answered, moveOf, shiftIn, movedSheet, didOf}
+use Rattle.sheet.specs.Promises.{Altered}
+use Rattle.sheet.specs.Parts.{Accepted}
+use Rattle.sheet.proofs.Tests.{accepts}
 
 -- an answer of 0 leaves the new sheet, any other the old one
 
@@ -19,37 +24,19 @@ by-answer P n old new o w =
     (λ z. subst (λ (k : ℕ). P (answered k old new .sheet)) (sym z) (w z))
     (λ x. subst (λ (e : Bool). P (cond e new old)) (sym (ne-eqb n 0 x)) o)
 
-pub done-sheet : (n : ℕ) (old new : Sheet) → n ≡ 0 → answered n old new .sheet ≡ new
-done-sheet n old new z = ap (λ (k : ℕ). answered k old new .sheet) z
+-- each table is moved by its own shift
+pub table-moved : (v : Move) (s : Sheet) (t : Table) → kept t (movedSheet v s) ≡ moved (s .marks) (v .at) (shiftIn t v) (kept t s)
+table-moved v s outside-counts = refl
+table-moved v s held-seconds = refl
 
-pub enter-alters : (most : ℕ) (s : Sheet) (c : ℕ) → changeOf most true s c .number ≡ 0 → OneInClass c (changeOf most true s c .sheet) s
-enter-alters most s c z =
-    let w = changes most true (s .marks) (s .outside) c z in
-    subst (λ (u : Sheet). OneInClass c u s) (sym (done-sheet _ s (changed true s c) z))
-    (record {
-      marks = refl;
-      outside = lowered-differ (s .marks) c 1 (s .outside) (λ b e. enter-fits (s .marks) c (s .outside) b e (w .fits));
-      held = refl;
-    })
+module _ (s : Sheet) (v : Move) (w : Accepted s v) where
+  pub table-shifted : (t : Table) → Shifted (s .marks) (v .at) (shiftIn t v) (kept t s) (kept t (movedSheet v s))
+  table-shifted t =
+      subst (Shifted (s .marks) (v .at) (shiftIn t v) (kept t s)) (sym (table-moved v s t)) (moved-shifted (s .marks) (v .at) (shiftIn t v) (kept t s) (w .bear t))
 
-pub leave-alters : (most : ℕ) (s : Sheet) (c : ℕ) → changeOf most false s c .number ≡ 0 → OneInClass c s (changeOf most false s c .sheet)
-leave-alters most s c z =
-    subst (OneInClass c s) (sym (done-sheet _ s (changed false s c) z))
-    (record { marks = refl; outside = raised-differ (s .marks) c 1 (s .outside); held = refl })
+  altered : Altered v s (movedSheet v s)
+  altered = record { marks = refl; tables = table-shifted; some = w .some }
 
-pub receive-alters : (most : ℕ) (s : Sheet) (c d : ℕ) → receiveOf most s c d .number ≡ 0 → SecondsIn c d s (receiveOf most s c d .sheet)
-receive-alters most s c d z =
-    let w = accepted most (s .marks) c d 8 _ (omega arith) z in
-    subst (SecondsIn c d s) (sym (done-sheet _ s (received s c d) z))
-    (record { marks = refl; outside = refl; held = raised-differ (s .marks) c d (s .held); some = amount-some d (w .0 .amount) })
-
-pub withdraw-alters : (most : ℕ) (s : Sheet) (c d : ℕ) → withdrawOf most s c d .number ≡ 0 → SecondsIn c d (withdrawOf most s c d .sheet) s
-withdraw-alters most s c d z =
-    let w = accepted most (s .marks) c d 9 _ (omega arith) z in
-    subst (λ (u : Sheet). SecondsIn c d u s) (sym (done-sheet _ s (withdrawn s c d) z))
-    (record {
-      marks = refl;
-      outside = refl;
-      held = lowered-differ (s .marks) c d (s .held) (λ b e. withdraw-fits (s .marks) c (s .held) b e d (w .1));
-      some = amount-some d (w .0 .amount);
-    })
+pub did-alters : (s : Sheet) (k : Call) → didOf mostMarks s k .number ≡ 0 → Altered (moveOf k) s (didOf mostMarks s k .sheet)
+did-alters s k z =
+    subst (Altered (moveOf k) s) (sym (ap (λ (n : ℕ). answered n s (movedSheet (moveOf k) s) .sheet) z)) (altered s (moveOf k) (accepts s k z))

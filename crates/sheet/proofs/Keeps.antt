@@ -1,99 +1,117 @@
 -- Soundness is kept by every call, whatever its answer. The tables are long enough for the marks that a call takes.
-use Prim.Native.Nat.{ℕ, _^_, _≤_}
+use Prim.Native.Nat.{ℕ, _+_, _^_, _≤_}
 use mathlib.Core.Path.{_≡_, refl, sym, subst}
-use mathlib.Core.Bool.{true, false}
+use mathlib.Core.Bool.{Bool, true, false, cond}
 use native.Mathlib.Omega.{arith}
 use native.Mathlib.Nat.{one-le-pow}
-use lib.Dec.{eqb}
+use lib.Dec.{eqb, leb}
+use mathlib.Core.List.{List}
 use lib.ListN.{length}
+use borrow.Author.Tests.{leb-true}
+use Rattle.ground.proofs.Cases.{if, same-or, mark, clash}
 use Rattle.boxes.specs.Boxes.{allFree}
 use Rattle.boxes.proofs.Boxes.{contains-all}
-use Rattle.ground.proofs.Cases.{if, same-or, mark, clash}
-use Rattle.tables.specs.Tables.{own, raised, lowered, touched}
-use Rattle.tables.proofs.Changes.{raised-differ, lowered-differ, differ-own, differ-here, raises-sums, lowers-sums}
+use Rattle.boxes.proofs.Sums.{sum-zero}
+use Rattle.tables.specs.declared.Shift.the-variants.{Stays}
+use Rattle.tables.specs.Tables.{entry, own, moved, Shifts}
+use Rattle.tables.proofs.Shifts.{own-shifts, shifted-sums, moved-stays}
+use Rattle.sheet.specs.declared.Call.{Call}
+use Rattle.sheet.specs.declared.Call.the-variants.{Enter, Leave, Receive, Withdraw}
 use Rattle.sheet.specs.declared.Sheet.{Sheet}
 use Rattle.sheet.specs.declared.Answer.{Answer}
-use Rattle.sheet.specs.Limits.{marksOk}
-use Rattle.sheet.specs.Record.{sheetOf, opened}
-use Rattle.sheet.specs.Calls.{openOf, changed, changeOf, received, receiveOf, withdrawn, withdrawOf}
-use Rattle.sheet.specs.Promises.{Long, BothSound}
-use Rattle.boxes.proofs.Sums.{sum-zero}
+use Rattle.sheet.specs.Limits.{marksOk, mostMarks, mostHeld, entries}
+use Rattle.sheet.specs.Record.{Table, outside-counts, held-seconds, kept, sheetOf, opened}
+use Rattle.sheet.specs.Sound.{ClassSound, TimesSound, ClassReady, Ready}
+use Rattle.sheet.specs.Calls.{openOf, standing, classShift, amountShift, classMove, amountMove, moveOf, movedSheet, numberOn, didOf}
+use Rattle.sheet.specs.Promises.{Long}
+use Rattle.sheet.specs.Parts.{Accepted}
 use Rattle.sheet.proofs.Answers.{open-done, open-refused}
 use Rattle.sheet.proofs.Kept.{class-sound, times-sound}
-use Rattle.sheet.proofs.Alters.{by-answer}
-use Rattle.sheet.proofs.Tests.{changes, accepted, enter-fits, receive-fits, withdraw-fits}
+use Rattle.sheet.proofs.Alters.{by-answer, table-shifted}
+use Rattle.sheet.proofs.Tests.{Changes, Amounts, changes, amounts, accepts, boxes-fit, amount-fits}
 
-not-one : (x : ℕ) → x ≤ 1 → eqb x 1 ≡ false → x ≡ 0
-not-one x l e = mark (λ (v : ℕ). eqb v 1 ≡ false → v ≡ 0) x (omega arith) (λ w. refl) (λ w. clash refl w) e
+module _ (s : Sheet) (long : Long entries s) where
+  -- each table has an entry for each box
+  room : marksOk mostMarks (s .marks) ≡ true → (t : Table) → 3 ^ s .marks ≤ length (kept t s)
+  room marks t = omega (arith, boxes-fit (s .marks) marks, long t)
 
-module _ (most n : ℕ) (room : (m : ℕ) → marksOk most m ≡ true → 3 ^ m ≤ n) (s : Sheet) (long : Long n s) (sound : BothSound s) where
-  pub enter-sound : (c : ℕ) → BothSound (changeOf most true s c .sheet)
-  enter-sound c = by-answer BothSound _ s (changed true s c) sound (λ z.
-      let w = changes most true (s .marks) (s .outside) c z in
-      let v = lowered-differ (s .marks) c 1 (s .outside) (λ b e. enter-fits (s .marks) c (s .outside) b e (w .fits)) in
-      let fit : 3 ^ s .marks ≤ length (lowered (s .marks) c 1 (s .outside)) = omega (arith, room (s .marks) (w .marks), long .outside, v .long) in
-      record {
-        class = record {
-          sums = lowers-sums v fit (w .low) (sound .class .sums);
+  -- a class change leaves the own count of its combination 0 or 1
+  one-after : (into : Bool) (x y : ℕ) → x ≤ 1 → eqb x (standing into) ≡ false → Shifts (classShift into) x y → y ≤ 1
+  one-after true x y l e h = omega arith
+  one-after false x y l e h = mark (λ (v : ℕ). eqb v 1 ≡ false → Shifts (classShift false) v y → y ≤ 1) x (omega arith) (λ w q. omega arith) (λ w q. clash refl w) e h
+
+  -- and a receipt or a withdrawal no more than the limit in the all-free box
+  most-after : (more : Bool) (d x y : ℕ) → cond more (leb (x + d) mostHeld) (leb d x) ≡ true → x ≤ mostHeld → Shifts (amountShift more d) x y → y ≤ mostHeld
+  most-after true d x y e l h = omega (arith, leb-true (x + d) mostHeld e)
+  most-after false d x y e l h = omega arith
+
+  module _ (into : Bool) (c : ℕ) (w : Changes mostMarks into (s .marks) (s .outside) c) (a : Accepted s (classMove into c)) where
+    class-moved : ClassSound (s .marks) (s .outside) → ClassSound (s .marks) (movedSheet (classMove into c) s .outside)
+    class-moved sound =
+        let v = table-shifted s (classMove into c) a outside-counts in
+        let fit = room (w .marks) outside-counts in
+        let own-moved = own-shifts v fit (w .low) in
+        record {
+          sums = shifted-sums v fit (w .low) (sound .sums);
           ones = λ x l. same-or x c
-              (λ e. subst (λ (y : ℕ). own (s .marks) (lowered (s .marks) c 1 (s .outside)) y ≤ 1) (sym e) (omega (arith, differ-here v fit (w .low), w .one)))
-              (λ e. omega (arith, differ-own v fit x l e, sound .class .ones x l));
-        };
-        times = sound .times;
-      })
+              (λ e. subst (λ (y : ℕ). own (s .marks) (movedSheet (classMove into c) s .outside) y ≤ 1) (sym e) (one-after into _ _ (w .one) (w .other) (own-moved .here)))
+              (λ n. omega (arith, own-moved .others x l n, sound .ones x l));
+        }
 
-  pub leave-sound : (c : ℕ) → BothSound (changeOf most false s c .sheet)
-  leave-sound c = by-answer BothSound _ s (changed false s c) sound (λ z.
-      let w = changes most false (s .marks) (s .outside) c z in
-      let v = raised-differ (s .marks) c 1 (s .outside) in
-      let fit : 3 ^ s .marks ≤ length (s .outside) = omega (arith, room (s .marks) (w .marks), long .outside) in
-      let out : own (s .marks) (s .outside) c ≡ 0 = not-one (own (s .marks) (s .outside) c) (w .one) (w .other) in
-      record {
-        class = record {
-          sums = raises-sums v fit (w .low) (sound .class .sums);
-          ones = λ x l. same-or x c
-              (λ e. subst (λ (y : ℕ). own (s .marks) (raised (s .marks) c 1 (s .outside)) y ≤ 1) (sym e) (omega (arith, differ-here v fit (w .low))))
-              (λ e. omega (arith, differ-own v fit x l e, sound .class .ones x l));
-        };
-        times = sound .times;
-      })
+  module _ (more : Bool) (c d : ℕ) (w : Amounts mostMarks more (s .marks) (s .held) c d) (a : Accepted s (amountMove more c d)) where
+    times-moved : TimesSound (s .marks) (s .held) → TimesSound (s .marks) (movedSheet (amountMove more c d) s .held)
+    times-moved sound =
+        let v = table-shifted s (amountMove more c d) a held-seconds in
+        let fit = room (w .marks) held-seconds in
+        let b = allFree (s .marks) in
+        let all = contains-all (s .marks) c (w .low) in
+        record {
+          sums = shifted-sums v fit (w .low) (sound .sums);
+          most = most-after more d (entry (s .held) b) _ (amount-fits (s .marks) c more d (s .held) (w .fits) b all) (sound .most)
+              (v .touched b (omega (arith, one-le-pow (s .marks) 3 (omega arith))) all);
+        }
 
-  pub receive-sound : (c d : ℕ) → BothSound (receiveOf most s c d .sheet)
-  receive-sound c d = by-answer BothSound _ s (received s c d) sound (λ z.
-      let w = accepted most (s .marks) c d 8 _ (omega arith) z in
-      let v = raised-differ (s .marks) c d (s .held) in
-      let fit : 3 ^ s .marks ≤ length (s .held) = omega (arith, room (s .marks) (w .0 .marks), long .held) in
-      let all = contains-all (s .marks) c (w .0 .low) in
-      record {
-        class = sound .class;
-        times = record {
-          sums = raises-sums v fit (w .0 .low) (sound .times .sums);
-          most = omega (arith, v .touched (allFree (s .marks)) (omega (arith, one-le-pow (s .marks) 3 (omega arith))) all, receive-fits (s .marks) c (s .held) (allFree (s .marks)) all d (w .1));
-        };
-      })
+  -- a table that stays is as sound as it was
+  still : (P : List ℕ → Type 0) (c : ℕ) (t : List ℕ) → P t → P (moved (s .marks) c Stays t)
+  still P c t p = subst P (moved-stays (s .marks) c Stays t refl) p
 
-  pub withdraw-sound : (c d : ℕ) → BothSound (withdrawOf most s c d .sheet)
-  withdraw-sound c d = by-answer BothSound _ s (withdrawn s c d) sound (λ z.
-      let w = accepted most (s .marks) c d 9 _ (omega arith) z in
-      let v = lowered-differ (s .marks) c d (s .held) (λ b e. withdraw-fits (s .marks) c (s .held) b e d (w .1)) in
-      let fit : 3 ^ s .marks ≤ length (lowered (s .marks) c d (s .held)) = omega (arith, room (s .marks) (w .0 .marks), long .held, v .long) in
-      let all = contains-all (s .marks) c (w .0 .low) in
-      record {
-        class = sound .class;
-        times = record {
-          sums = lowers-sums v fit (w .0 .low) (sound .times .sums);
-          most = omega (arith, v .touched (allFree (s .marks)) (omega (arith, one-le-pow (s .marks) 3 (omega arith))) all, sound .times .most);
-        };
-      })
+  class-after : (k : Call) → numberOn mostMarks s k ≡ 0 → ClassSound (s .marks) (s .outside) → ClassSound (s .marks) (movedSheet (moveOf k) s .outside)
+  class-after (Enter c) z = class-moved true c (changes mostMarks true (s .marks) (s .outside) c z) (accepts s (Enter c) z)
+  class-after (Leave c) z = class-moved false c (changes mostMarks false (s .marks) (s .outside) c z) (accepts s (Leave c) z)
+  class-after (Receive c d) z = still (ClassSound (s .marks)) c (s .outside)
+  class-after (Withdraw c d) z = still (ClassSound (s .marks)) c (s .outside)
 
--- an opened sheet is sound, and so is the one that a refused opening gives
+  times-after : (k : Call) → numberOn mostMarks s k ≡ 0 → TimesSound (s .marks) (s .held) → TimesSound (s .marks) (movedSheet (moveOf k) s .held)
+  times-after (Enter c) z = still (TimesSound (s .marks)) c (s .held)
+  times-after (Leave c) z = still (TimesSound (s .marks)) c (s .held)
+  times-after (Receive c d) z = times-moved true c d (amounts mostMarks true (s .marks) (s .held) c d z) (accepts s (Receive c d) z)
+  times-after (Withdraw c d) z = times-moved false c d (amounts mostMarks false (s .marks) (s .held) c d z) (accepts s (Withdraw c d) z)
 
-opened-sound : (n m : ℕ) → 3 ^ m ≤ n → BothSound (sheetOf n (opened m))
-opened-sound n m l =
-    record { class = class-sound n m l (λ c. false); times = times-sound n m l (λ c. 0) (omega (arith, sum-zero (2 ^ m))) }
+  -- SOUNDNESS IS KEPT, of each table
+  pub class-kept : (k : Call) → ClassSound (s .marks) (s .outside) → let u = didOf mostMarks s k .sheet in ClassSound (u .marks) (u .outside)
+  class-kept k sound = by-answer (λ (u : Sheet). ClassSound (u .marks) (u .outside)) _ s (movedSheet (moveOf k) s) sound (λ z. class-after k z sound)
 
-pub open-sound : (most n m : ℕ) → ((k : ℕ) → marksOk most k ≡ true → 3 ^ k ≤ n) → 3 ^ 1 ≤ n → BothSound (openOf most n m .sheet)
-open-sound most n m room one =
-    if (marksOk most m)
-    (λ e. subst (λ (a : Answer). BothSound (a .sheet)) (open-done most n m e) (opened-sound n m (room m e)))
-    (λ e. subst (λ (a : Answer). BothSound (a .sheet)) (open-refused most n m e) (opened-sound n 1 one))
+  pub times-kept : (k : Call) → TimesSound (s .marks) (s .held) → let u = didOf mostMarks s k .sheet in TimesSound (u .marks) (u .held)
+  times-kept k sound = by-answer (λ (u : Sheet). TimesSound (u .marks) (u .held)) _ s (movedSheet (moveOf k) s) sound (λ z. times-after k z sound)
+
+  pub ready-kept : (k : Call) → Ready mostMarks s → Ready mostMarks (didOf mostMarks s k .sheet)
+  ready-kept k ready = by-answer (Ready mostMarks) _ s (movedSheet (moveOf k) s) ready
+      (λ z. record { marks = ready .marks; class = class-after k z (ready .class); times = times-after k z (ready .times) })
+
+-- a sheet that is fit for every call is fit for those that read the class
+pub class-of-ready : {most : ℕ} {s : Sheet} → Ready most s → ClassReady most s
+class-of-ready r = record { marks = r .marks; class = r .class }
+
+-- an opened sheet is fit for every call, and so is the one that a refused opening gives
+
+opened-ready : (m : ℕ) → marksOk mostMarks m ≡ true → Ready mostMarks (sheetOf entries (opened m))
+opened-ready m e =
+    let l = boxes-fit m e in
+    record { marks = e; class = class-sound 243 m l (λ c. false); times = times-sound 243 m l (λ c. 0) (omega (arith, sum-zero (2 ^ m))) }
+
+pub open-ready : (m : ℕ) → Ready mostMarks (openOf mostMarks entries m .sheet)
+unfolding marksOk
+open-ready m =
+    if (marksOk mostMarks m)
+    (λ e. subst (λ (a : Answer). Ready mostMarks (a .sheet)) (open-done mostMarks entries m e) (opened-ready m e))
+    (λ e. subst (λ (a : Answer). Ready mostMarks (a .sheet)) (open-refused mostMarks entries m e) (opened-ready 1 refl))

@@ -3,3 +3,4 @@ pub mod Record
 pub mod Sound
 pub mod Calls
 pub mod Promises
+pub mod Parts

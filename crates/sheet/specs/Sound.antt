@@ -13,12 +13,12 @@ use Rattle.sheet.specs.declared.Sheet.{Sheet}
 
 -- a class table: each outside count is the number of the box's combinations outside the class, a single combination having 0 or 1
 pub record ClassSound (m : ℕ) (t : List ℕ) : Type 0 where
-  pub sums : Sums m t
+  pub sums : Sums m (entry t)
   pub ones : (c : ℕ) → c < 2 ^ m → own m t c ≤ 1
 
 -- a time table: each entry is the sum over the box's combinations, and the all-free box holds at most 4,000,000,000
 pub record TimesSound (m : ℕ) (t : List ℕ) : Type 0 where
-  pub sums : Sums m t
+  pub sums : Sums m (entry t)
   pub most : entry t (allFree m) ≤ mostHeld
 
 -- the class that the counts tell: the combinations whose own count is 0
@@ -30,15 +30,15 @@ abbrev pub recordOf : Sheet → Record
 recordOf s = record { marks = s .marks; class = classOf (s .marks) (s .outside); times = own (s .marks) (s .held) }
 
 -- fit for a call that reads the class: 1 to `most` marks, and a sound class table
-pub record ClassReady (most m : ℕ) (outside : List ℕ) : Type 0 where
-  pub marks : marksOk most m ≡ true
-  pub class : ClassSound m outside
+pub record ClassReady (most : ℕ) (s : Sheet) : Type 0 where
+  pub marks : marksOk most (s .marks) ≡ true
+  pub class : ClassSound (s .marks) (s .outside)
 
 -- fit for a call that reads the times as well
-pub record Ready (most m : ℕ) (outside held : List ℕ) : Type 0 where
-  pub marks : marksOk most m ≡ true
-  pub class : ClassSound m outside
-  pub times : TimesSound m held
+pub record Ready (most : ℕ) (s : Sheet) : Type 0 where
+  pub marks : marksOk most (s .marks) ≡ true
+  pub class : ClassSound (s .marks) (s .outside)
+  pub times : TimesSound (s .marks) (s .held)
 
 -- how many combinations are in the class
 abbrev pub sizeOf : ℕ → (ℕ → Bool) → ℕ

@@ -1,18 +1,25 @@
 // The sheet: marks, an outside count and held seconds for each box, and the calls that open and change it. Every call takes any numbers
 // and any sheet, spoiled ones included, and answers by a number of 01's table.
 ghost use mathlib.Core.Path.{_≡_};
-ghost use mathlib.Core.Bool.{true, false};
 ghost use Prim.Native.Nat.{_≤_};
+ghost use Rattle.ground.specs.Decides.{Decides};
 ghost use Rattle.tables.specs.Tables.{entry, afresh};
 ghost use Rattle.sheet.specs.Limits.{mostMarks, entries, mostHeld, mostAmount};
 ghost use Rattle.sheet.specs.Record.{sheetFrom, sheetOf, opened, Addable};
-ghost use Rattle.sheet.specs.Calls.{openOf, changeOf, receiveOf, withdrawOf, didOf, ClassSize};
+ghost use Rattle.sheet.specs.Calls.{openOf, movedSheet, didOf, ClassSize};
+ghost use Rattle.sheet.specs.Parts.{Accepted};
+ghost use Rattle.sheet.specs.Sound.{ClassReady, Ready, classOf, sizeOf};
+ghost use Rattle.sheet.specs.declared.Call.the-variants.{Enter, Leave, Receive, Withdraw};
 
-pub mod numbers;
-pub mod soundness;
+mod moves;
+mod numbers;
+mod soundness;
+
+pub use numbers::marks_ok;
 
 use boxes;
 use tables;
+use tables::Shift;
 
 pub struct Sheet {
     pub marks: usize,
@@ -26,6 +33,13 @@ pub enum Call {
     Leave(usize),
     Receive(usize, u64),
     Withdraw(usize, u64),
+}
+
+// What a call comes to: the combination, and what each table is shifted by in the boxes that contain it.
+pub struct Move {
+    pub at: usize,
+    pub outside: Shift,
+    pub held: Shift,
 }
 
 // The number of a call that opens or changes a sheet, and the sheet that is left.
@@ -42,7 +56,7 @@ pub struct Value {
 
 // The table of the sums over boxes of what each combination has of its own.
 fn table(m: usize, own: &[u32]) -> [u32; Sheet::ENTRIES]
-    requires { ⌜ (m ≤ 5) × Addable m (now own) ⌝ }
+    requires { ⌜ (m ≤ mostMarks) × Addable m (now own) ⌝ }
     ensures { λ r. ⌜ r ≡ afresh entries m (entry (now (own .entry))) ⌝ }
 {
     let mut t = [0u32; Sheet::ENTRIES];
@@ -66,7 +80,7 @@ impl Sheet {
 
     // The sheet worked out afresh from what each combination adds to the outside counts, and the seconds that it holds.
     pub fn afresh(m: usize, outs: &[u32], times: &[u32]) -> Sheet
-        requires { ⌜ (m ≤ 5) × Addable m (now outs) × Addable m (now times) ⌝ }
+        requires { ⌜ (m ≤ mostMarks) × Addable m (now outs) × Addable m (now times) ⌝ }
         ensures { λ r. ⌜ r ≡ sheetFrom entries m (entry (now (outs .entry))) (entry (now (times .entry))) ⌝ }
     {
         let outside = table(m, outs);
@@ -80,7 +94,7 @@ impl Sheet {
 
     // The sheet of an opened class of m marks.
     pub fn opened(m: usize) -> Sheet
-        requires { ⌜ m ≤ 5 ⌝ }
+        requires { ⌜ m ≤ mostMarks ⌝ }
         ensures { λ r. ⌜ r ≡ sheetOf entries (opened m) ⌝ }
     {
         let ones = [1u32; 32];
@@ -88,6 +102,7 @@ impl Sheet {
         Sheet::afresh(m, &ones, &none)
     }
 
+    // A sheet of so many marks, with every combination outside and nothing held.
     pub fn open(marks: usize) -> Answer
         ensures { λ r. ⌜ r ≡ openOf mostMarks entries marks ⌝ }
     {
@@ -103,126 +118,115 @@ impl Sheet {
         }
     }
 
-    // Into the class: the outside counts fall by one.
-    pub fn enter(self, c: usize) -> Answer
-        ensures { λ r. ⌜ r ≡ changeOf mostMarks true self c ⌝ }
+    // The sheet with a move made in each table.
+    fn moved(self, v: Move) -> Sheet
+        requires { ⌜ Accepted self v ⌝ }
+        ensures { λ r. ⌜ r ≡ movedSheet v self ⌝ }
     {
         let m = self.marks;
+        let c = v.at;
         let mut outside = self.outside;
-        let number = numbers::change_number(m, c, &outside, true);
-        if number != 0 {
-            return Answer {
-                number,
-                sheet: self,
-            };
-        }
-        tables::lower(m, c, 1, &mut outside);
-        let held = self.held;
-        let sheet = Sheet {
+        let by = v.outside;
+        tables::move_at(m, c, by, &mut outside);
+        let mut held = self.held;
+        let seconds = v.held;
+        tables::move_at(m, c, seconds, &mut held);
+        Sheet {
             marks: m,
             outside,
             held,
-        };
-        Answer { number: 0, sheet }
+        }
     }
 
-    // Out of the class: the outside counts rise by one.
-    pub fn leave(self, c: usize) -> Answer
-        ensures { λ r. ⌜ r ≡ changeOf mostMarks false self c ⌝ }
+    // Makes a call: its number, and the sheet that is left.
+    pub fn did(self, call: Call) -> Answer
+        ensures { λ r. ⌜ r ≡ didOf mostMarks self call ⌝ }
     {
         let m = self.marks;
-        let mut outside = self.outside;
-        let number = numbers::change_number(m, c, &outside, false);
+        let outside = self.outside;
+        let held = self.held;
+        let number = numbers::of_call(m, &outside, &held, call);
         if number != 0 {
             return Answer {
                 number,
                 sheet: self,
             };
         }
-        tables::raise(m, c, 1, &mut outside);
-        let held = self.held;
-        let sheet = Sheet {
-            marks: m,
-            outside,
-            held,
-        };
-        Answer { number: 0, sheet }
+        Answer {
+            number: 0,
+            sheet: self.moved(moves::of_call(call)),
+        }
+    }
+
+    // Into the class.
+    pub fn enter(self, c: usize) -> Answer
+        ensures { λ r. ⌜ r ≡ didOf mostMarks self (Enter c) ⌝ }
+    {
+        self.did(Call::Enter(c))
+    }
+
+    // Out of the class.
+    pub fn leave(self, c: usize) -> Answer
+        ensures { λ r. ⌜ r ≡ didOf mostMarks self (Leave c) ⌝ }
+    {
+        self.did(Call::Leave(c))
     }
 
     // A receipt of d seconds.
     pub fn receive(self, c: usize, d: u64) -> Answer
-        ensures { λ r. ⌜ r ≡ receiveOf mostMarks self c d ⌝ }
+        ensures { λ r. ⌜ r ≡ didOf mostMarks self (Receive c d) ⌝ }
     {
-        let m = self.marks;
-        let mut held = self.held;
-        let number = numbers::receive_number(m, c, d, &held);
-        if number != 0 {
-            return Answer {
-                number,
-                sheet: self,
-            };
-        }
-        tables::raise(m, c, d as u32, &mut held);
-        let outside = self.outside;
-        let sheet = Sheet {
-            marks: m,
-            outside,
-            held,
-        };
-        Answer { number: 0, sheet }
+        self.did(Call::Receive(c, d))
     }
 
     // A withdrawal of d seconds.
     pub fn withdraw(self, c: usize, d: u64) -> Answer
-        ensures { λ r. ⌜ r ≡ withdrawOf mostMarks self c d ⌝ }
+        ensures { λ r. ⌜ r ≡ didOf mostMarks self (Withdraw c d) ⌝ }
     {
-        let m = self.marks;
-        let mut held = self.held;
-        let number = numbers::withdraw_number(m, c, d, &held);
-        if number != 0 {
-            return Answer {
-                number,
-                sheet: self,
-            };
-        }
-        tables::lower(m, c, d as u32, &mut held);
-        let outside = self.outside;
-        let sheet = Sheet {
-            marks: m,
-            outside,
-            held,
-        };
-        Answer { number: 0, sheet }
+        self.did(Call::Withdraw(c, d))
     }
 
-    // The call, made on the sheet: its number, and the sheet that is left.
-    pub fn did(self, call: Call) -> Answer
-        ensures { λ r. ⌜ r ≡ didOf mostMarks self call ⌝ }
+    // Whether a call that reads the class can be answered: m is right, and the class table is sound.
+    pub fn class_ready(self) -> bool
+        ensures { λ r. ⌜ Decides r (ClassReady mostMarks self) ⌝ }
     {
-        match call {
-            Call::Enter(c) => self.enter(c),
-            Call::Leave(c) => self.leave(c),
-            Call::Receive(c, d) => self.receive(c, d),
-            Call::Withdraw(c, d) => self.withdraw(c, d),
-        }
+        let m = self.marks;
+        let outside = self.outside;
+        numbers::marks_ok(m) && soundness::class_sound(m, &outside)
+    }
+
+    // Whether a call that reads the class and the times can be answered.
+    pub fn ready(self) -> bool
+        ensures { λ r. ⌜ Decides r (Ready mostMarks self) ⌝ }
+    {
+        let m = self.marks;
+        let held = self.held;
+        self.class_ready() && soundness::times_sound(m, &held)
+    }
+
+    // How many combinations are in the class, of a sheet whose class table is sound.
+    pub fn size_sound(self) -> u64
+        requires { ⌜ ClassReady mostMarks self ⌝ }
+        ensures { λ r. ⌜ r ≡ sizeOf (self .marks) (classOf (self .marks) (self .outside)) ⌝ }
+    {
+        let m = self.marks;
+        let all = self.outside[boxes::power3(m) - 1];
+        (boxes::power2(m) as u64) - (all as u64)
     }
 
     // How many combinations are in the class.
     pub fn class_size(self) -> Value
         ensures { λ r. ⌜ ClassSize mostMarks self r ⌝ }
     {
-        let m = self.marks;
-        let outside = self.outside;
-        if !soundness::class_ready(m, &outside) {
+        if !self.class_ready() {
             return Value {
                 number: 7,
                 value: 0,
             };
         }
-        let all = outside[boxes::power3(m) - 1];
         Value {
             number: 0,
-            value: (boxes::power2(m) as u64) - (all as u64),
+            value: self.size_sound(),
         }
     }
 }

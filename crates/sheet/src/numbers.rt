@@ -1,13 +1,16 @@
 // The numbers of the calls that change a sheet, in 01's order of tests.
 ghost use mathlib.Core.Path.{_≡_};
-ghost use mathlib.Core.Bool.{true};
-ghost use Prim.Native.Nat.{_≤_, _<_, _^_};
+ghost use mathlib.Core.Bool.{cond};
+ghost use Prim.Native.Nat.{_≤_};
 ghost use lib.Dec.{eqb};
 ghost use lib.ListN.{length};
-ghost use Rattle.tables.specs.Tables.{touched};
-ghost use Rattle.sheet.specs.Limits.{mostMarks, entries, marksOk, amountOk};
-ghost use Rattle.sheet.specs.Calls.{standing, fitsMoved, changeNo, amountNo, receiveNo, withdrawNo};
+ghost use Rattle.sheet.specs.Limits.{mostMarks, entries, mostHeld, marksOk, amountOk};
+ghost use Rattle.sheet.specs.Parts.{mostKept};
+ghost use Rattle.sheet.specs.Calls.{standing, changeNo, amountNo, numberOn};
+ghost use Rattle.sheet.specs.Record.{sheetWith};
+use crate::Call;
 use crate::Sheet;
+use crate::moves;
 
 // Whether a sheet may have m marks.
 pub fn marks_ok(m: usize) -> bool
@@ -33,18 +36,8 @@ fn stands(x: u32, into: bool) -> bool
     x == 1
 }
 
-// Whether the touched counts fit their boxes after a move into the class or out of it.
-fn fits_moved(m: usize, c: usize, t: &[u32], into: bool) -> bool
-    requires { ⌜ (m ≤ 5) × (c < 2 ^ m) × (entries ≤ length (now t)) ⌝ }
-    ensures { λ r. ⌜ r ≡ touched m c (fitsMoved into m (now (t .entry))) ⌝ }
-{
-    if into {
-        return tables::between(m, c, t, 1, 2, 1);
-    }
-    tables::between(m, c, t, 0, 0, 1)
-}
-
-pub fn change_number(m: usize, c: usize, t: &[u32], into: bool) -> u64
+// The number of a class change, into the class or out of it.
+fn change_number(m: usize, c: usize, t: &[u32], into: bool) -> u64
     requires { ⌜ entries ≤ length (now t) ⌝ }
     ensures { λ r. ⌜ r ≡ changeNo mostMarks into m (now (t .entry)) c ⌝ }
 {
@@ -61,15 +54,26 @@ pub fn change_number(m: usize, c: usize, t: &[u32], into: bool) -> u64
     if stands(own, into) {
         return 3;
     }
-    if !fits_moved(m, c, t, into) {
+    if !tables::fits_at(m, c, moves::class_shift(into), t, 0, 1) {
         return 7;
     }
     0
 }
 
-// The tests that a receipt and a withdrawal share.
-fn amount_number(m: usize, c: usize, d: u64) -> u64
-    ensures { λ r. ⌜ r ≡ amountNo mostMarks m c d 0 true ⌝ }
+// The most that an entry may then hold: a withdrawal is judged by 0 alone, and no entry is above this.
+fn most_after(more: bool) -> u64
+    ensures { λ r. ⌜ r ≡ cond more mostHeld mostKept ⌝ }
+{
+    if more {
+        return Sheet::MOST_HELD as u64;
+    }
+    4_294_967_295
+}
+
+// The number of a receipt or a withdrawal.
+fn amount_number(m: usize, c: usize, t: &[u32], d: u64, more: bool) -> u64
+    requires { ⌜ entries ≤ length (now t) ⌝ }
+    ensures { λ r. ⌜ r ≡ amountNo mostMarks more m (now (t .entry)) c d ⌝ }
 {
     if !marks_ok(m) {
         return 7;
@@ -80,34 +84,24 @@ fn amount_number(m: usize, c: usize, d: u64) -> u64
     if !amount_ok(d) {
         return 4;
     }
-    0
-}
-
-pub fn receive_number(m: usize, c: usize, d: u64, t: &[u32]) -> u64
-    requires { ⌜ entries ≤ length (now t) ⌝ }
-    ensures { λ r. ⌜ r ≡ receiveNo mostMarks m (now (t .entry)) c d ⌝ }
-{
-    let number = amount_number(m, c, d);
-    if number != 0 {
-        return number;
+    if tables::fits_at(m, c, moves::amount_shift(more, d), t, most_after(more), 0) {
+        return 0;
     }
-    let most = Sheet::MOST_HELD as u64;
-    if !tables::between(m, c, t, 0, most - d + 1, 0) {
+    if more {
         return 8;
     }
-    0
+    9
 }
 
-pub fn withdraw_number(m: usize, c: usize, d: u64, t: &[u32]) -> u64
-    requires { ⌜ entries ≤ length (now t) ⌝ }
-    ensures { λ r. ⌜ r ≡ withdrawNo mostMarks m (now (t .entry)) c d ⌝ }
+// The number of a call on a sheet of m marks with these tables.
+pub fn of_call(m: usize, outside: &[u32], held: &[u32], call: Call) -> u64
+    requires { ⌜ (entries ≤ length (now outside)) × (entries ≤ length (now held)) ⌝ }
+    ensures { λ r. ⌜ r ≡ numberOn mostMarks (sheetWith m (now (outside .entry)) (now (held .entry))) call ⌝ }
 {
-    let number = amount_number(m, c, d);
-    if number != 0 {
-        return number;
+    match call {
+        Call::Enter(c) => change_number(m, c, outside, true),
+        Call::Leave(c) => change_number(m, c, outside, false),
+        Call::Receive(c, d) => amount_number(m, c, held, d, true),
+        Call::Withdraw(c, d) => amount_number(m, c, held, d, false),
     }
-    if !tables::between(m, c, t, d, 4294967296, 0) {
-        return 9;
-    }
-    0
 }

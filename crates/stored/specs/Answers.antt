@@ -24,7 +24,7 @@ pub record Reads (most n : ℕ) (t : List ℕ) (answer : Read) : Type 0 where
 
 -- a sheet in which every table is sound and the marks are 1 to `most`
 abbrev pub Fit : ℕ → Sheet → Type 0
-Fit most s = Ready most (s .marks) (s .outside) (s .held)
+Fit most s = Ready most s
 
 -- Writing a sheet to the lent bytes `out`: 7 as for the total; 5 exactly if room is below the length of the form; else the form stands in front, and
 -- the bytes behind it stay. A refused call leaves every byte.

@@ -6,8 +6,7 @@ use native.Mathlib.Omega.{arith}
 use lib.ListN.{length}
 use lib.Seq.{ext-getD}
 use Rattle.boxes.specs.Boxes.{sumIn, single}
-use Rattle.ground.proofs.Cases.{below-or}
-use Rattle.boxes.proofs.Boxes.{sumIn-ext, sumIn-nothing}
+use Rattle.boxes.proofs.Boxes.{sumIn-ext}
 use Rattle.boxes.proofs.Choices.{through-lt, sumIn-single}
 use Rattle.tables.specs.Tables.{tab, entry, own, afresh, Sums}
 
@@ -40,11 +39,5 @@ module _ (n m : ℕ) (f : ℕ → ℕ) (fits : 3 ^ m ≤ n) where
   pub afresh-own : (c : ℕ) → c < 2 ^ m → own m (afresh n m f) c ≡ f c
   afresh-own c l = afresh-entry n m f (single m c) (omega (arith, through-lt m c 0)) ∙ sumIn-single m c f l
 
-  pub afresh-sums : Sums m (afresh n m f)
+  pub afresh-sums : Sums m (entry (afresh n m f))
   afresh-sums b l = afresh-entry n m f b (omega arith) ∙ sumIn-ext m b f (own m (afresh n m f)) (λ c lc. sym (afresh-own c lc))
-
--- a table of sums with nothing at 3^m and above is the one worked out afresh from its own
-pub sums-afresh : (m : ℕ) (t : List ℕ) → Sums m t → ((b : ℕ) → 3 ^ m ≤ b → b < length t → entry t b ≡ 0) → t ≡ afresh (length t) m (own m t)
-sums-afresh m t s above =
-    tab-of (length t) _ t refl
-    (λ b l. below-or b (3 ^ m) (λ q. s b q) (λ q. above b q l ∙ sym (sumIn-nothing m b (own m t) q)))

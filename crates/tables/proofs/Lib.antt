@@ -2,4 +2,4 @@ pub mod Entries
 pub mod Moves
 pub mod Touched
 pub mod Thirds
-pub mod Changes
+pub mod Shifts

@@ -1,41 +1,27 @@
--- A change at one combination c goes through the boxes that contain c by their free marks: those below k have moved, by g, and no other entry has.
-use Prim.Native.Nat.{ℕ, _+_, _-_, _^_, _<_, _≤_}
-use mathlib.Core.Bool.{Bool, true, false, cond}
+-- A move at one combination c goes through the boxes that contain c by their free marks: those below k have moved, by g, and no other entry has.
+use Prim.Native.Nat.{ℕ, _+_, _^_, _<_, _≤_}
+use mathlib.Core.Bool.{Bool, true, cond}
 use mathlib.Core.Path.{_≡_, refl, sym, _∙_, ap, subst}
 use mathlib.Core.List.{List}
 use native.Mathlib.Omega.{arith}
 use lib.ListN.{length, set, length-set}
 use lib.Seq.{getD-set-same, getD-set-other}
 use Rattle.boxes.specs.Boxes.{contains, freeMarks, through}
-use Rattle.boxes.specs.Sums.{only}
 use Rattle.ground.proofs.Cases.{if, clash, below-or, same-or}
 use Rattle.boxes.proofs.Choices.{through-lt, through-contains, through-free, freeMarks-through, freeMarks-lt}
-use Rattle.tables.specs.Tables.{entry, tab, raised, lowered}
-use Rattle.tables.proofs.Entries.{tab-of, tab-ext}
+use Rattle.tables.specs.declared.Shift.{Shift}
+use Rattle.tables.specs.Tables.{entry, shifted, moved}
+use Rattle.tables.proofs.Entries.{tab-of}
 
-abbrev pub more : ℕ → ℕ → ℕ
-more d x = x + d
-
-abbrev pub fewer : ℕ → ℕ → ℕ
-fewer d x = x - d
-
-plus-only : (a : Bool) (x d : ℕ) → cond a (x + d) x ≡ x + only a d
-plus-only true x d = refl
-plus-only false x d = omega arith
-
-less-only : (a : Bool) (x d : ℕ) → cond a (x - d) x ≡ x - only a d
-less-only true x d = refl
-less-only false x d = omega arith
-
-pub record Moved (m c k : ℕ) (g : ℕ → ℕ) (t₀ t : List ℕ) : Type 0 where
+pub record MovedUpTo (m c k : ℕ) (g : ℕ → ℕ) (t₀ t : List ℕ) : Type 0 where
   pub long : length t ≡ length t₀
   pub gone : (b : ℕ) → contains m b c ≡ true → freeMarks m b < k → entry t b ≡ g (entry t₀ b)
   pub rest : (b : ℕ) → (contains m b c ≡ true → k ≤ freeMarks m b) → entry t b ≡ entry t₀ b
 
-pub moved-none : (m c : ℕ) (g : ℕ → ℕ) (t : List ℕ) → Moved m c 0 g t t
-moved-none m c g t = record { long = refl; gone = λ b e l. absurd (omega arith); rest = λ b h. refl }
+pub moved-start : (m c : ℕ) (g : ℕ → ℕ) (t : List ℕ) → MovedUpTo m c 0 g t t
+moved-start m c g t = record { long = refl; gone = λ b e l. absurd (omega arith); rest = λ b h. refl }
 
-module _ {m c k : ℕ} {g : ℕ → ℕ} {t₀ t : List ℕ} (v : Moved m c k g t₀ t) (lk : k < 2 ^ m) where
+module _ {m c k : ℕ} {g : ℕ → ℕ} {t₀ t : List ℕ} (v : MovedUpTo m c k g t₀ t) (lk : k < 2 ^ m) where
   -- the box of turn k has not moved yet
   moved-here : entry t (through m c k) ≡ entry t₀ (through m c k)
   moved-here = v .rest (through m c k) (λ e. omega (arith, freeMarks-through m c k lk))
@@ -43,7 +29,7 @@ module _ {m c k : ℕ} {g : ℕ → ℕ} {t₀ t : List ℕ} (v : Moved m c k g 
   turn-is : (b : ℕ) → contains m b c ≡ true → freeMarks m b ≡ k → b ≡ through m c k
   turn-is b e f = sym (through-free m b c e) ∙ ap (through m c) f
 
-  moved-more : c < 2 ^ m → 3 ^ m ≤ length t₀ → Moved m c (k + 1) g t₀ (set t (through m c k) (g (entry t (through m c k))))
+  moved-more : c < 2 ^ m → 3 ^ m ≤ length t₀ → MovedUpTo m c (k + 1) g t₀ (set t (through m c k) (g (entry t (through m c k))))
   moved-more lc h =
       let at = through m c k in
       let x = g (entry t at) in
@@ -64,9 +50,9 @@ pub record Turn (m c k : ℕ) (g : ℕ → ℕ) (t₀ t : List ℕ) (b : ℕ) : 
   pub touches : contains m b c ≡ true
   pub inside : b < length t
   pub still : entry t b ≡ entry t₀ b
-  pub moves : Moved m c (k + 1) g t₀ (set t b (g (entry t b)))
+  pub moves : MovedUpTo m c (k + 1) g t₀ (set t b (g (entry t b)))
 
-pub moved-turn : {m c k : ℕ} {g : ℕ → ℕ} {t₀ t : List ℕ} → Moved m c k g t₀ t → k < 2 ^ m → c < 2 ^ m → 3 ^ m ≤ length t₀
+pub moved-turn : {m c k : ℕ} {g : ℕ → ℕ} {t₀ t : List ℕ} → MovedUpTo m c k g t₀ t → k < 2 ^ m → c < 2 ^ m → 3 ^ m ≤ length t₀
     → (b : ℕ) → b ≡ through m c k → Turn m c k g t₀ t b
 moved-turn {m} {c} {k} {g} {t₀} {t} v lk lc h b e =
     subst (Turn m c k g t₀ t) (sym e)
@@ -77,18 +63,10 @@ moved-turn {m} {c} {k} {g} {t₀} {t} v lk lc h b e =
       moves = moved-more v lk lc h;
     })
 
-pub moved-all : {m c : ℕ} {g : ℕ → ℕ} {t₀ t : List ℕ} → Moved m c (2 ^ m) g t₀ t
-    → t ≡ tab (length t₀) (λ b. cond (contains m b c) (g (entry t₀ b)) (entry t₀ b))
-moved-all {m} {c} {g} {t₀} {t} v =
+pub moved-all : {m c : ℕ} (s : Shift) {t₀ t : List ℕ} → MovedUpTo m c (2 ^ m) (shifted s) t₀ t → t ≡ moved m c s t₀
+moved-all {m} {c} s {t₀} {t} v =
+    let g = shifted s in
     tab-of (length t₀) _ t (v .long)
     (λ b l. if (contains m b c)
     (λ e. v .gone b e (freeMarks-lt m b) ∙ ap (λ (z : Bool). cond z (g (entry t₀ b)) (entry t₀ b)) (sym e))
     (λ e. v .rest b (λ w. clash w e) ∙ ap (λ (z : Bool). cond z (g (entry t₀ b)) (entry t₀ b)) (sym e)))
-
--- by d more and by d less
-
-pub raised-all : {m c : ℕ} (d : ℕ) {t₀ t : List ℕ} → Moved m c (2 ^ m) (more d) t₀ t → t ≡ raised m c d t₀
-raised-all {m} {c} d {t₀} v = moved-all v ∙ tab-ext (length t₀) _ _ (λ b l. plus-only (contains m b c) (entry t₀ b) d)
-
-pub lowered-all : {m c : ℕ} (d : ℕ) {t₀ t : List ℕ} → Moved m c (2 ^ m) (fewer d) t₀ t → t ≡ lowered m c d t₀
-lowered-all {m} {c} d {t₀} v = moved-all v ∙ tab-ext (length t₀) _ _ (λ b l. less-only (contains m b c) (entry t₀ b) d)

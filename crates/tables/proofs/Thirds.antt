@@ -13,8 +13,8 @@ use Rattle.boxes.proofs.Boxes.{sumIn-ext, sumIn-nothing, sumIn-le-all}
 use Rattle.ground.proofs.Cases.{below-or, same-or}
 use Rattle.boxes.proofs.Choices.{through-wide, sumIn-single}
 use Rattle.boxes.proofs.Highest.{sumIn-off, sumIn-on, sumIn-free, single-top}
-use Rattle.tables.specs.Tables.{entry}
-use Rattle.tables.specs.Thirds.{from, Joined, SumsOf, sumOf, Made}
+use Rattle.tables.specs.Tables.{entry, Sums}
+use Rattle.tables.specs.Thirds.{from, Added, sumOf, Made}
 
 pub from-start : (f : ℕ → ℕ) → from 0 f ≡ f
 from-start f = fun-ext (λ b. let e : 0 + b ≡ b = omega arith in ap f e)
@@ -34,14 +34,14 @@ module _ (m : ℕ) (t : ℕ → ℕ) where
   on-own : (c : ℕ) → c < 2 ^ m → t (3 ^ m + single m c) ≡ t (single (suc m) (2 ^ m + c))
   on-own c l = ap t (sym (single-top m c l))
 
-  low : SumsOf m t → (b : ℕ) → b < 3 ^ m → t b ≡ sumIn (suc m) b (λ c. t (single (suc m) c))
+  low : Sums m t → (b : ℕ) → b < 3 ^ m → t b ≡ sumIn (suc m) b (λ c. t (single (suc m) c))
   low off b q = off b q ∙ sumIn-ext m b _ _ (λ c lc. off-own c lc) ∙ sym (sumIn-off m b (λ c. t (single (suc m) c)) q)
 
-  high : SumsOf m (from (3 ^ m) t) → (b : ℕ) → b < 3 ^ m → t (3 ^ m + b) ≡ sumIn (suc m) (3 ^ m + b) (λ c. t (single (suc m) c))
+  high : Sums m (from (3 ^ m) t) → (b : ℕ) → b < 3 ^ m → t (3 ^ m + b) ≡ sumIn (suc m) (3 ^ m + b) (λ c. t (single (suc m) c))
   high on b q = on b q ∙ sumIn-ext m b _ _ (λ c lc. on-own c lc) ∙ sym (sumIn-on m b (λ c. t (single (suc m) c)) q)
 
-  pub joined-sums : SumsOf m t → SumsOf m (from (3 ^ m) t) → Joined (3 ^ m) t → SumsOf (suc m) t
-  joined-sums off on join b l =
+  pub added-sums : Sums m t → Sums m (from (3 ^ m) t) → Added (3 ^ m) t → Sums (suc m) t
+  added-sums off on join b l =
       thirds (3 ^ m) b (omega (arith, pow-suc 3 m))
       (λ q. low off b q)
       (λ c q e. subst (λ (x : ℕ). t x ≡ sumIn (suc m) x (λ c. t (single (suc m) c))) (sym e) (high on c q))
@@ -51,14 +51,14 @@ module _ (m : ℕ) (t : ℕ → ℕ) where
       subst (λ (x : ℕ). t x ≡ sumIn (suc m) x (λ c. t (single (suc m) c))) (sym e)
       (ap t (sym at) ∙ join c q ∙ omega (arith, ap t mid, low off c q, high on c q, sumIn-free m c (λ c. t (single (suc m) c)) q, sumIn-off m c (λ c. t (single (suc m) c)) q, sumIn-on m c (λ c. t (single (suc m) c)) q)))
 
-  pub sums-off : SumsOf (suc m) t → SumsOf m t
+  pub sums-off : Sums (suc m) t → Sums m t
   sums-off s b q = s b (omega (arith, pow-suc 3 m)) ∙ sumIn-off m b (λ c. t (single (suc m) c)) q ∙ sumIn-ext m b _ _ (λ c lc. sym (off-own c lc))
 
-  pub sums-on : SumsOf (suc m) t → SumsOf m (from (3 ^ m) t)
+  pub sums-on : Sums (suc m) t → Sums m (from (3 ^ m) t)
   sums-on s b q = s (3 ^ m + b) (omega (arith, pow-suc 3 m)) ∙ sumIn-on m b (λ c. t (single (suc m) c)) q ∙ sumIn-ext m b _ _ (λ c lc. sym (on-own c lc))
 
-  pub sums-joined : SumsOf (suc m) t → Joined (3 ^ m) t
-  sums-joined s b q =
+  pub sums-added : Sums (suc m) t → Added (3 ^ m) t
+  sums-added s b q =
       let p = pow-suc 3 m in
       let at : b + 3 ^ m + 3 ^ m ≡ 3 ^ m * 2 + b = omega arith in
       let mid : b + 3 ^ m ≡ 3 ^ m + b = omega arith in
@@ -66,9 +66,9 @@ module _ (m : ℕ) (t : ℕ → ℕ) where
 
 -- the same of a table from `at` on, with m - 1 marks below the highest
 
-pub sums-none : (m : ℕ) (t : ℕ → ℕ) → m ≡ 0 → SumsOf m t
+pub sums-none : (m : ℕ) (t : ℕ → ℕ) → m ≡ 0 → Sums m t
 unfolding through
-sums-none m t z = subst (λ (n : ℕ). SumsOf n t) (sym z) (λ b l.
+sums-none m t z = subst (λ (n : ℕ). Sums n t) (sym z) (λ b l.
     let e : b ≡ 0 = omega arith in
     subst (λ (x : ℕ). t x ≡ sumIn 0 x (λ c. t (single 0 c))) (sym e) (base t))
   where
@@ -82,17 +82,17 @@ module _ (m at p : ℕ) (t : ℕ → ℕ) (some : 1 ≤ m) (is : p ≡ 3 ^ (m - 
   moved : from (at + p) t ≡ from (3 ^ (m - 1)) (from at t)
   moved = fun-ext (λ b. let e : at + p + b ≡ at + (3 ^ (m - 1) + b) = omega arith in ap t e)
 
-  pub parts-sums : {r : Bool} → SumsOf (m - 1) (from at t) → SumsOf (m - 1) (from (at + p) t) → Decides r (Joined p (from at t)) → Decides r (SumsOf m (from at t))
-  parts-sums {r} off on d = subst (λ (n : ℕ). Decides r (SumsOf n (from at t))) (sym one-more) (record {
-    yes = λ e. joined-sums (m - 1) (from at t) off (subst (SumsOf (m - 1)) moved on) (subst (λ (n : ℕ). Joined n (from at t)) is (d .yes e));
-    sure = λ s. d .sure (subst (λ (n : ℕ). Joined n (from at t)) (sym is) (sums-joined (m - 1) (from at t) s));
+  pub parts-sums : {r : Bool} → Sums (m - 1) (from at t) → Sums (m - 1) (from (at + p) t) → Decides r (Added p (from at t)) → Decides r (Sums m (from at t))
+  parts-sums {r} off on d = subst (λ (n : ℕ). Decides r (Sums n (from at t))) (sym one-more) (record {
+    yes = λ e. added-sums (m - 1) (from at t) off (subst (Sums (m - 1)) moved on) (subst (λ (n : ℕ). Added n (from at t)) is (d .yes e));
+    sure = λ s. d .sure (subst (λ (n : ℕ). Added n (from at t)) (sym is) (sums-added (m - 1) (from at t) s));
   })
 
-  pub off-sums : SumsOf m (from at t) → SumsOf (m - 1) (from at t)
-  off-sums s = sums-off (m - 1) (from at t) (subst (λ (n : ℕ). SumsOf n (from at t)) one-more s)
+  pub off-sums : Sums m (from at t) → Sums (m - 1) (from at t)
+  off-sums s = sums-off (m - 1) (from at t) (subst (λ (n : ℕ). Sums n (from at t)) one-more s)
 
-  pub on-sums : SumsOf m (from at t) → SumsOf (m - 1) (from (at + p) t)
-  on-sums s = subst (SumsOf (m - 1)) (sym moved) (sums-on (m - 1) (from at t) (subst (λ (n : ℕ). SumsOf n (from at t)) one-more s))
+  pub on-sums : Sums m (from at t) → Sums (m - 1) (from (at + p) t)
+  on-sums s = subst (Sums (m - 1)) (sym moved) (sums-on (m - 1) (from at t) (subst (λ (n : ℕ). Sums n (from at t)) one-more s))
 
 -- entries made one after the other
 

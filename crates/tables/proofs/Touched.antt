@@ -4,13 +4,13 @@ use mathlib.Core.Bool.{Bool, true, false, not, _&&_, _||_}
 use mathlib.Core.Path.{_≡_, refl, sym, _∙_, ap, ap₂}
 use mathlib.Core.List.{List}
 use lib.Count.{ones}
-use lib.Dec.{leb, ltb}
 use native.Mathlib.Omega.{arith}
 use Rattle.boxes.specs.Boxes.{contains, freeMarks, through}
 use Rattle.ground.proofs.Cases.{if, clash, same-or, and-left, and-right}
 use Rattle.boxes.proofs.Boxes.{contains-box}
 use Rattle.boxes.proofs.Choices.{through-lt, through-contains, through-free, freeMarks-lt, freeCount-through}
-use Rattle.tables.specs.Tables.{entry, every, touched, inBounds}
+use Rattle.tables.specs.declared.Shift.{Shift}
+use Rattle.tables.specs.Tables.{entry, every, fitsShifted, fitsMoved, touched}
 
 pub every-yes : (n : ℕ) (p : ℕ → Bool) → ((b : ℕ) → b < n → p b ≡ true) → every n p ≡ true
 unfolding every
@@ -57,8 +57,8 @@ touched-ext m c p q h =
     (λ e. touched-yes m c p (λ b w. h b w ∙ touched-at m c q e b w) ∙ sym e)
     (λ e. if (touched m c p) (λ y. clash (touched-yes m c q (λ b w. sym (h b w) ∙ touched-at m c p y b w)) e) (λ n. n ∙ sym e))
 
--- the box of turn k, judged by the number of its free marks
-pub judged : (m c k : ℕ) (t : List ℕ) (low high each b : ℕ) (r : Bool) → k < 2 ^ m → b ≡ through m c k
-    → r ≡ (leb low (entry t b) && ltb (entry t b) (high + each * 2 ^ ones k)) → inBounds m t low high each (through m c k) ≡ r
-judged m c k t low high each b r l e j =
-    ap₂ (λ (x f : ℕ). leb low (entry t x) && ltb (entry t x) (high + each * 2 ^ f)) (sym e) (freeCount-through m c k l) ∙ sym j
+-- the box of turn k has as many combinations as k has sets of marks
+pub judged : (m c k : ℕ) (s : Shift) (t : List ℕ) (most each b top : ℕ) (r : Bool) → k < 2 ^ m → b ≡ through m c k → top ≡ most + each * 2 ^ ones k
+    → r ≡ fitsShifted s top (entry t b) → fitsMoved m s t most each (through m c k) ≡ r
+judged m c k s t most each b top r l e h j =
+    ap₂ (λ (x f : ℕ). fitsShifted s (most + each * 2 ^ f) (entry t x)) (sym e) (freeCount-through m c k l) ∙ ap (λ (x : ℕ). fitsShifted s x (entry t b)) (sym h) ∙ sym j

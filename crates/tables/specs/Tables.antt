@@ -1,12 +1,13 @@
 -- A table keeps a number for each box over m marks; it is a list, at least 3^m long. Entries at 3^m and above are no box's.
 use Prim.Native.Nat.{ℕ, zero, suc, _+_, _*_, _-_, _^_, _<_}
 use mathlib.Core.Path.{_≡_}
-use mathlib.Core.Bool.{Bool, true, false, not, _&&_, _||_}
+use mathlib.Core.Bool.{Bool, true, false, not, cond, _&&_, _||_}
 use mathlib.Core.List.{List, [], _∷_}
-use lib.Dec.{leb, ltb}
+use lib.Dec.{leb}
 use lib.ListN.{length, getD}
 use Rattle.boxes.specs.Boxes.{contains, sumIn, single, freeCount}
-use Rattle.boxes.specs.Sums.{only}
+use Rattle.tables.specs.declared.Shift.{Shift}
+use Rattle.tables.specs.declared.Shift.the-variants.{Stays, Up, Down}
 
 -- what the table keeps of the box b
 abbrev pub entry : List ℕ → ℕ → ℕ
@@ -26,21 +27,30 @@ abbrev pub afresh : ℕ → ℕ → (ℕ → ℕ) → List ℕ
 afresh n m f = tab n (λ b. sumIn m b f)
 
 -- each entry of a box is the sum over the box's combinations
-abbrev pub Sums : ℕ → List ℕ → Type 0
-Sums m t = (b : ℕ) → b < 3 ^ m → entry t b ≡ sumIn m b (own m t)
+abbrev pub Sums : ℕ → (ℕ → ℕ) → Type 0
+Sums m t = (b : ℕ) → b < 3 ^ m → t b ≡ sumIn m b (λ c. t (single m c))
 
--- the table with d more, or d less, in the boxes that contain c, and no other
-abbrev pub raised : ℕ → ℕ → ℕ → List ℕ → List ℕ
-raised m c d t = tab (length t) (λ b. entry t b + only (contains m b c) d)
+-- a move shifts a number: it stays, or has d more, or d less
+abbrev pub shifted : Shift → ℕ → ℕ
+shifted Stays x = x
+shifted (Up d) x = x + d
+shifted (Down d) x = x - d
 
-abbrev pub lowered : ℕ → ℕ → ℕ → List ℕ → List ℕ
-lowered m c d t = tab (length t) (λ b. entry t b - only (contains m b c) d)
+-- the table shifted in the boxes that contain c, and in no other
+abbrev pub moved : ℕ → ℕ → Shift → List ℕ → List ℕ
+moved m c s t = tab (length t) (λ b. cond (contains m b c) (shifted s (entry t b)) (entry t b))
 
--- two tables that differ in exactly the boxes that contain c, each by d, and in no other entry
-pub record Differ (m c d : ℕ) (low high : List ℕ) : Type 0 where
-  pub long : length low ≡ length high
-  pub touched : (b : ℕ) → b < length low → contains m b c ≡ true → entry high b ≡ entry low b + d
-  pub others : (b : ℕ) → b < length low → contains m b c ≡ false → entry high b ≡ entry low b
+-- y is x shifted, and nothing was cut off at 0
+abbrev pub Shifts : Shift → ℕ → ℕ → Type 0
+Shifts Stays x y = y ≡ x
+Shifts (Up d) x y = y ≡ x + d
+Shifts (Down d) x y = x ≡ y + d
+
+-- u is the table t with exactly the boxes that contain c shifted, each of them, and no other entry
+pub record Shifted (m c : ℕ) (s : Shift) (t u : List ℕ) : Type 0 where
+  pub long : length u ≡ length t
+  pub touched : (b : ℕ) → b < length t → contains m b c ≡ true → Shifts s (entry t b) (entry u b)
+  pub others : (b : ℕ) → b < length t → contains m b c ≡ false → entry u b ≡ entry t b
 
 -- p holds of each number below n
 unfoldable pub every : ℕ → (ℕ → Bool) → Bool
@@ -51,6 +61,12 @@ every (suc n) p = every n p && p n
 abbrev pub touched : ℕ → ℕ → (ℕ → Bool) → Bool
 touched m c p = every (3 ^ m) (λ b. not (contains m b c) || p b)
 
--- the entry of b is at least `low`, and below `high` with `each` more for each combination of the box
-abbrev pub inBounds : ℕ → List ℕ → ℕ → ℕ → ℕ → ℕ → Bool
-inBounds m t low high each b = leb low (entry t b) && ltb (entry t b) (high + each * 2 ^ freeCount m b)
+-- x, shifted, is 0 to `most`
+abbrev pub fitsShifted : Shift → ℕ → ℕ → Bool
+fitsShifted Stays most x = leb x most
+fitsShifted (Up d) most x = leb (x + d) most
+fitsShifted (Down d) most x = leb d x && leb (x - d) most
+
+-- the entry of b, shifted, is 0 to `most` and `each` more for each combination of the box
+abbrev pub fitsMoved : ℕ → Shift → List ℕ → ℕ → ℕ → ℕ → Bool
+fitsMoved m s t most each b = fitsShifted s (most + each * 2 ^ freeCount m b) (entry t b)

@@ -11,7 +11,7 @@ fill-requires : tie.Need-fill-requires
 fill-requires c κs =
     let s = c .before .before in
     let boxes = pow-le-pow-right {n = 3} (omega arith) {i = s .args .m} {j = 5} (s .pre .0) in
-    (omega (arith, s .pre .0), s .pre .1 .long, boxes, s .pre .1 .sum)
+    ((omega (arith, s .pre .0), s .pre .1 .long, boxes), s .pre .1 .sum)
 
 returns : tie.Need-returns
 returns c = search needs

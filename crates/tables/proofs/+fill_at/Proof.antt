@@ -38,34 +38,34 @@ powers t c =
     (ap (λ (n : ℕ). 2 ^ n) e ∙ pow-suc 2 (m - 1), ap (λ (n : ℕ). 3 ^ n) e ∙ pow-suc 3 (m - 1))
 
 fill-at-mul-t : (t : ℕ) → fill-at-lts.Need-mul-t (fill-at-calls t) (fill-at-at t) fill-at.Post
-fill-at-mul-t t c = omega (arith, c .before .before .before .pre .1 .2)
+fill-at-mul-t t c = omega (arith, c .before .before .before .pre .1 .0 .2)
 
 fill-at-shared-slice-read-t : (t : ℕ) → fill-at-lts.Need-shared-slice-read-t (fill-at-calls t) (fill-at-at t) fill-at.Post
-fill-at-shared-slice-read-t t c = let s = c .before .before .before .before in omega (arith, s .pre .1 .1, one-le-pow (s .args .m) 2 (omega arith))
+fill-at-shared-slice-read-t t c = let s = c .before .before .before .before in omega (arith, s .pre .1 .0 .1, one-le-pow (s .args .m) 2 (omega arith))
 
 fill-at-mul-t-2 : (t : ℕ) → fill-at-lts.Need-mul-t-2 (fill-at-calls t) (fill-at-at t) fill-at.Post
-fill-at-mul-t-2 t c = omega (arith, c .before .before .before .before .pre .1 .4)
+fill-at-mul-t-2 t c = omega (arith, c .before .before .before .before .pre .1 .0 .4)
 
 fill-at-slice-write-t : (t : ℕ) → fill-at-lts.Need-slice-write-t (fill-at-calls t) (fill-at-at t) fill-at.Post
-fill-at-slice-write-t t c = let s = c .before .before .before .before in omega (arith, s .pre .1 .3, one-le-pow (s .args .m) 3 (omega arith))
+fill-at-slice-write-t t c = let s = c .before .before .before .before in omega (arith, s .pre .1 .0 .3, one-le-pow (s .args .m) 3 (omega arith))
 
 fill-at-same-length : (t : ℕ) → fill-at-lts.Need-same-length (fill-at-calls t) (fill-at-at t) fill-at.Post
 fill-at-same-length t c = let s = c .before .before .before .before in length-set (s .args .t .now) (s .args .at) _
 
 fill-at-returns : (t : ℕ) → fill-at-lts.Need-returns (fill-at-calls t) (fill-at-at t) fill-at.Post
-fill-at-returns t c = let s = c .before .before .before .before in fill-none (s .args .m) (s .args .at) (s .args .low) (entry (s .args .own .now)) (s .args .t .now) (c .before .if1 .taken) (omega (arith, s .pre .1 .3, one-le-pow (s .args .m) 3 (omega arith)))
+fill-at-returns t c = let s = c .before .before .before .before in fill-none (s .args .m) (s .args .at) (s .args .low) (entry (s .args .own .now)) (s .args .t .now) (c .before .if1 .taken) (omega (arith, s .pre .1 .0 .3, one-le-pow (s .args .m) 3 (omega arith)))
 
 fill-at-sub-power3 : (t : ℕ) → fill-at-lts.Need-sub-power3 (fill-at-calls t) (fill-at-at t) fill-at.Post
 fill-at-sub-power3 t c = omega arith
 
 fill-at-power3-requires : (t : ℕ) → fill-at-lts.Need-power3-requires (fill-at-calls t) (fill-at-at t) fill-at.Post
-fill-at-power3-requires t c κs = omega (arith, c .before .before .before .pre .1 .0)
+fill-at-power3-requires t c κs = omega (arith, c .before .before .before .pre .1 .0 .0)
 
 fill-at-sub-power2 : (t : ℕ) → fill-at-lts.Need-sub-power2 (fill-at-calls t) (fill-at-at t) fill-at.Post
 fill-at-sub-power2 t c = omega arith
 
 fill-at-power2-requires : (t : ℕ) → fill-at-lts.Need-power2-requires (fill-at-calls t) (fill-at-at t) fill-at.Post
-fill-at-power2-requires t c κs = omega (arith, c .before .before .before .before .pre .1 .0)
+fill-at-power2-requires t c κs = omega (arith, c .before .before .before .before .pre .1 .0 .0)
 
 fill-at-sub-fill-at : (t : ℕ) → fill-at-lts.Need-sub-fill-at (fill-at-calls t) (fill-at-at t) fill-at.Post
 fill-at-sub-fill-at t c = omega arith
@@ -75,16 +75,16 @@ fill-at-fill-at-requires t c κs =
     let s = c .before .before .before .before .before .before in
     let w = powers t (c .before .before .before) in
     let all = whole-parts (s .args .m) (s .args .low) (c .before .power2 .result) (entry (s .args .own .now)) (omega arith) (c .before .power2 .ensures .0) in
-    (omega (arith, s .pre .0), (omega (arith, s .pre .1 .0), omega (arith, w .0, s .pre .1 .1), omega (arith, w .0, s .pre .1 .2), omega (arith, w .1, s .pre .1 .3), omega (arith, w .1, s .pre .1 .4), omega (arith, all, s .pre .1 .5)))
+    (omega (arith, s .pre .0), ((omega (arith, s .pre .1 .0 .0), omega (arith, w .0, s .pre .1 .0 .1), omega (arith, w .0, s .pre .1 .0 .2), omega (arith, w .1, s .pre .1 .0 .3), omega (arith, w .1, s .pre .1 .0 .4)), omega (arith, all, s .pre .1 .1)))
 
 fill-at-sub-fill-at-2 : (t : ℕ) → fill-at-lts.Need-sub-fill-at-2 (fill-at-calls t) (fill-at-at t) fill-at.Post
 fill-at-sub-fill-at-2 t c = omega arith
 
 fill-at-add-fill-at : (t : ℕ) → fill-at-lts.Need-add-fill-at (fill-at-calls t) (fill-at-at t) fill-at.Post
-fill-at-add-fill-at t c = let s = c .before .before .before .before .before .before .before .before .before in omega (arith, powers t (c .before .before .before .before .before .before) .0, c .before .before .before .before .power2 .ensures .0, s .pre .1 .2)
+fill-at-add-fill-at t c = let s = c .before .before .before .before .before .before .before .before .before in omega (arith, powers t (c .before .before .before .before .before .before) .0, c .before .before .before .before .power2 .ensures .0, s .pre .1 .0 .2)
 
 fill-at-add-fill-at-2 : (t : ℕ) → fill-at-lts.Need-add-fill-at-2 (fill-at-calls t) (fill-at-at t) fill-at.Post
-fill-at-add-fill-at-2 t c = let s = c .before .before .before .before .before .before .before .before .before .before in omega (arith, powers t (c .before .before .before .before .before .before .before) .1, c .before .before .before .before .before .before .power3 .ensures .0, s .pre .1 .4)
+fill-at-add-fill-at-2 t c = let s = c .before .before .before .before .before .before .before .before .before .before in omega (arith, powers t (c .before .before .before .before .before .before .before) .1, c .before .before .before .before .before .before .power3 .ensures .0, s .pre .1 .0 .4)
 
 fill-at-fill-at-requires-2 : (t : ℕ) → fill-at-lts.Need-fill-at-requires-2 (fill-at-calls t) (fill-at-at t) fill-at.Post
 fill-at-fill-at-requires-2 t c κs =
@@ -93,7 +93,7 @@ fill-at-fill-at-requires-2 t c κs =
     let h = c .before .before .before .before .before .power2 .ensures .0 in
     let p = c .before .before .before .before .before .before .power3 .ensures .0 in
     let all = whole-parts (s .args .m) (s .args .low) (c .before .before .before .before .before .power2 .result) (entry (s .args .own .now)) (omega arith) h in
-    (omega (arith, s .pre .0), (omega (arith, s .pre .1 .0), omega (arith, w .0, h, s .pre .1 .1), omega (arith, w .0, h, s .pre .1 .2), omega (arith, w .1, p, s .pre .1 .3, c .before .before .before .fill-at .ensures .long), omega (arith, w .1, p, s .pre .1 .4), omega (arith, all, s .pre .1 .5)))
+    (omega (arith, s .pre .0), ((omega (arith, s .pre .1 .0 .0), omega (arith, w .0, h, s .pre .1 .0 .1), omega (arith, w .0, h, s .pre .1 .0 .2), omega (arith, w .1, p, s .pre .1 .0 .3, c .before .before .before .fill-at .ensures .long), omega (arith, w .1, p, s .pre .1 .0 .4)), omega (arith, all, s .pre .1 .1)))
 
 fill-at-join-requires : (t : ℕ) → fill-at-lts.Need-join-requires (fill-at-calls t) (fill-at-at t) fill-at.Post
 fill-at-join-requires t c κs =
@@ -101,7 +101,7 @@ fill-at-join-requires t c κs =
     let w = powers t (c .before .before .before .before .before .before .before .before .before .before .before) in
     let h = c .before .before .before .before .before .before .before .before .before .power2 .ensures .0 in
     let p = c .before .before .before .before .before .before .before .before .before .before .power3 .ensures .0 in
-    (c .before .before .before .before .before .before .before .before .before .before .power3 .ensures .1, omega (arith, s .pre .1 .4), omega (arith, w .1, p, s .pre .1 .3, c .before .before .before .before .before .before .before .fill-at .ensures .long, c .before .before .before .fill-at2 .ensures .long), parts-fit (s .args .m) (s .args .low) (c .before .before .before .before .before .before .before .before .before .power2 .result) (entry (s .args .own .now)) (omega arith) h (s .args .at) (c .before .before .before .before .before .before .before .before .before .before .power3 .result) p (c .before .before .before .before .before .before .before .fill-at .ensures) (c .before .before .before .fill-at2 .ensures) (s .pre .1 .5))
+    ((c .before .before .before .before .before .before .before .before .before .before .power3 .ensures .1, omega (arith, s .pre .1 .0 .4), omega (arith, w .1, p, s .pre .1 .0 .3, c .before .before .before .before .before .before .before .fill-at .ensures .long, c .before .before .before .fill-at2 .ensures .long)), parts-fit (s .args .m) (s .args .low) (c .before .before .before .before .before .before .before .before .before .power2 .result) (entry (s .args .own .now)) (omega arith) h (s .args .at) (c .before .before .before .before .before .before .before .before .before .before .power3 .result) p (c .before .before .before .before .before .before .before .fill-at .ensures) (c .before .before .before .fill-at2 .ensures) (s .pre .1 .1))
 
 fill-at-same-length-2 : (t : ℕ) → fill-at-lts.Need-same-length-2 (fill-at-calls t) (fill-at-at t) fill-at.Post
 fill-at-same-length-2 t c = c .before .before .join .ensures .long ∙ c .before .before .before .before .before .before .fill-at2 .ensures .long ∙ c .before .before .before .before .before .before .before .before .before .before .fill-at .ensures .long

@@ -5,7 +5,7 @@ use Rattle.tables.proofs.sums_at.Reads as sums-at
 use Rattle.tables.proofs.sums_at.Kinds as sums-at-kinds
 use Rattle.tables.proofs.+sums_at.Lts-sums_at as sums-at-lts
 use Rattle.boxes.proofs.power3.Reads as power3-reads
-use Rattle.tables.proofs.is_joined.Reads as is-joined-reads
+use Rattle.tables.proofs.is_added.Reads as is-added-reads
 use Rattle.tables.proofs.+sums_at.{statement}
 use Rattle.tables.proofs.+sums_at.Tie.{close}
 use Prim.Native.Nat.{ℕ, suc, _*_, _-_, _^_, _<_}
@@ -27,7 +27,7 @@ abbrev sums-at-below : ℕ → In 1 sums-at-kinds.ps
 sums-at-below t = and 1 sums-at-kinds.ps (falls 1 sums-at-kinds.ps _<_ μ-sums-at t) sums-at.Pre
 
 abbrev sums-at-calls : ℕ → sums-at-lts.Claims
-sums-at-calls t = (power3-reads.Asked, power3-reads.Learnt, sums-at-below t, sums-at.Post, is-joined-reads.Asked, is-joined-reads.Learnt)
+sums-at-calls t = (power3-reads.Asked, power3-reads.Learnt, sums-at-below t, sums-at.Post, is-added-reads.Asked, is-added-reads.Learnt)
 
 -- 3^m is three times 3^(m - 1)
 power : (t : ℕ) (c : sums-at-lts.Else1 (sums-at-calls t) (sums-at-at t) sums-at.Post) → 3 ^ c .before .before .args .m ≡ 3 ^ (c .before .before .args .m - 1) * 3
@@ -73,8 +73,8 @@ sums-at-sums-at-requires-2 t c κs =
 sums-at-returns-3 : (t : ℕ) → sums-at-lts.Need-returns-3 (sums-at-calls t) (sums-at-at t) sums-at.Post
 sums-at-returns-3 t c = decided-no refl (λ h. denied (c .before .sums-at2 .ensures) (not-true _ (c .if3 .taken)) (on-sums (c .before .before .before .before .before .before .before .args .m) (c .before .before .before .before .before .before .before .args .at) (c .before .before .before .before .power3 .result) (entry (c .before .before .before .before .before .before .before .args .t .now)) (omega arith) (c .before .before .before .before .power3 .ensures .0) h))
 
-sums-at-is-joined-requires : (t : ℕ) → sums-at-lts.Need-is-joined-requires (sums-at-calls t) (sums-at-at t) sums-at.Post
-sums-at-is-joined-requires t c κs =
+sums-at-is-added-requires : (t : ℕ) → sums-at-lts.Need-is-added-requires (sums-at-calls t) (sums-at-at t) sums-at.Post
+sums-at-is-added-requires t c κs =
     let s = c .before .before .before .before .before .before .before in
     let w = power t (c .before .before .before .before .before) in
     let p = c .before .before .before .before .power3 .ensures in
@@ -85,7 +85,7 @@ sums-at-returns-4 t c =
     parts-sums (c .before .before .before .before .before .before .before .before .args .m) (c .before .before .before .before .before .before .before .before .args .at) (c .before .before .before .before .before .power3 .result) (entry (c .before .before .before .before .before .before .before .before .args .t .now)) (omega arith) (c .before .before .before .before .before .power3 .ensures .0)
     (c .before .before .before .before .sums-at .ensures .yes (not-false _ (c .before .before .before .if2 .left)))
     (c .before .before .sums-at2 .ensures .yes (not-false _ (c .before .if3 .left)))
-    (c .is-joined .ensures)
+    (c .is-added .ensures)
 
 pub +sums-at-spec : {M : Type 1} → statement M
 +sums-at-spec = close μ-sums-at λ t. sums-at-lts.spec (sums-at-calls t)
@@ -101,5 +101,5 @@ pub +sums-at-spec : {M : Type 1} → statement M
     (sums-at-add-sums-at t)
     (sums-at-sums-at-requires-2 t)
     (sums-at-returns-3 t)
-    (sums-at-is-joined-requires t)
+    (sums-at-is-added-requires t)
     (sums-at-returns-4 t)

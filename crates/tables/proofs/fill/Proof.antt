@@ -20,20 +20,20 @@ abbrev μ-loop : tie.MeasureT-loop
 fill-at-requires : tie.Need-fill-at-requires Inv-loop μ-loop
 fill-at-requires c κs =
     let s = c .before .before .before in
-    let two = pow-le-pow-right {n = 2} (omega arith) {i = s .args .m} {j = 8} (s .pre .0) in
-    let three = pow-le-pow-right {n = 3} (omega arith) {i = s .args .m} {j = 8} (s .pre .0) in
+    let two = pow-le-pow-right {n = 2} (omega arith) {i = s .args .m} {j = 8} (s .pre .0 .0) in
+    let three = pow-le-pow-right {n = 3} (omega arith) {i = s .args .m} {j = 8} (s .pre .0 .0) in
     let all = ap (sumIn (s .args .m) (allFree (s .args .m))) (from-start (entry (s .args .own .now))) in
-    (s .pre .0, omega (arith, s .pre .1), omega (arith, two), omega (arith, s .pre .2), omega (arith, three), omega (arith, all, s .pre .3))
+    ((s .pre .0 .0, omega (arith, s .pre .0 .1), omega (arith, two), omega (arith, s .pre .0 .2), omega (arith, three)), omega (arith, all, s .pre .1))
 
 power3-requires : tie.Need-power3-requires Inv-loop μ-loop
-power3-requires c κs = c .before .before .before .before .before .before .pre .0
+power3-requires c κs = c .before .before .before .before .before .before .pre .0 .0
 
 loop-holds : tie.Need-loop-holds Inv-loop μ-loop
 loop-holds c =
     let s = c .before .before .before .before .before .before .before in
     let made = c .before .before .before .fill-at .ensures in
     let is = c .power3 .ensures .0 in
-    (omega (arith, is), omega (arith, is, made .long, s .pre .2), refl, standing-boxes (s .args .m) (c .power3 .result) (entry (s .args .own .now)) is made)
+    (omega (arith, is), omega (arith, is, made .long, s .pre .0 .2), refl, standing-boxes (s .args .m) (c .power3 .result) (entry (s .args .own .now)) is made)
 
 mul-t : tie.Need-mul-t Inv-loop μ-loop
 mul-t c = omega arith

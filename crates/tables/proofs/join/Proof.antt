@@ -38,25 +38,25 @@ mul-t : tie.Need-mul-t Inv-loop μ-loop
 mul-t c = search needs
 
 slice-read-t : tie.Need-slice-read-t Inv-loop μ-loop
-slice-read-t c = omega (arith, c .before .before .loop .inv .1 .long, c .before .before .before .pre .2)
+slice-read-t c = omega (arith, c .before .before .loop .inv .1 .long, c .before .before .before .pre .0 .2)
 
 mul-t-2 : tie.Need-mul-t-2 Inv-loop μ-loop
 mul-t-2 c = search needs
 
 slice-read-t-2 : tie.Need-slice-read-t-2 Inv-loop μ-loop
-slice-read-t-2 c = omega (arith, c .before .before .before .loop .inv .1 .long, c .before .before .before .before .pre .2)
+slice-read-t-2 c = omega (arith, c .before .before .before .loop .inv .1 .long, c .before .before .before .before .pre .0 .2)
 
 add-t : tie.Need-add-t Inv-loop μ-loop
 add-t c =
     let l = c .before .before .before .loop in
     let a = c .before .before .before .before in
-    record { fits = omega (arith, parts c .0, parts c .1, a .pre .3 (l .b) (omega arith)) }
+    record { fits = omega (arith, parts c .0, parts c .1, a .pre .1 (l .b) (omega arith)) }
 
 mul-t-3 : tie.Need-mul-t-3 Inv-loop μ-loop
 mul-t-3 c = search needs
 
 slice-write-t : tie.Need-slice-write-t Inv-loop μ-loop
-slice-write-t c = omega (arith, c .before .before .before .loop .inv .1 .long, c .before .before .before .before .pre .2)
+slice-write-t c = omega (arith, c .before .before .before .loop .inv .1 .long, c .before .before .before .before .pre .0 .2)
 
 add-b : tie.Need-add-b Inv-loop μ-loop
 add-b c = search needs
@@ -67,7 +67,7 @@ loop-less c = search needs
 loop-again : tie.Need-loop-again Inv-loop μ-loop
 loop-again c =
     let l = c .before .before .before .loop in
-    (omega arith, made-more _ _ (l .inv .1) (omega arith) (omega (arith, c .before .before .before .before .pre .2)) (ap₂ (λ (x y : ℕ). x + y) (parts c .0) (parts c .1)))
+    (omega arith, made-more _ _ (l .inv .1) (omega arith) (omega (arith, c .before .before .before .before .pre .0 .2)) (ap₂ (λ (x y : ℕ). x + y) (parts c .0) (parts c .1)))
 
 same-length : tie.Need-same-length Inv-loop μ-loop
 same-length c = c .before .loop .inv .1 .long

@@ -6,10 +6,12 @@ use native.Mathlib.Omega.{arith}
 use lib.Dec.{eqb}
 use borrow.Author.Tests.{not-true, not-false}
 use borrow.Author.Needs.{needs}
-use Rattle.sheet.proofs.Tests.{marks-most, boxes-fit, change-7, change-2, change-own, change-3, change-count, change-0}
-use Rattle.sheet.specs.Calls.{standing}
+use Rattle.sheet.proofs.Tests.{marks-most, boxes-fit, change-7, change-2, change-own, change-3, change-count, change-0, class-bounds}
+use Rattle.tables.specs.declared.Shift.{Shift}
+use Rattle.tables.proofs.Touched.{touched-ext}
+use Rattle.sheet.specs.Calls.{standing, fitsClass}
 use Rattle.sheet.specs.Limits.{marksOk, mostMarks}
-use Rattle.tables.specs.Tables.{entry, own}
+use Rattle.tables.specs.Tables.{entry, own, fitsMoved, touched}
 use Rattle.sheet.proofs.numbers.change_number.Statement.{statement}
 use Rattle.sheet.proofs.numbers.change_number.Tie as tie
 
@@ -60,14 +62,31 @@ stands-requires c κs = search needs
 returns-4 : tie.Need-returns-4
 returns-4 c = sym (change-3 _ _ _ _ _ (marks (c .before .before .before .before .before .before .before)) (low (c .before .before .before .before .before)) (one (c .before .before)) (stood (c .before) ∙ c .if4 .taken))
 
-fits-moved-requires : tie.Need-fits-moved-requires
-fits-moved-requires c κs = (marks-most 5 _ (marks (c .before .before .before .before .before .before .before)), low (c .before .before .before .before .before), c .before .before .before .before .before .before .before .before .before .before .pre)
+class-shift-requires : tie.Need-class-shift-requires
+class-shift-requires c κs = search needs
+
+fits-at-requires : tie.Need-fits-at-requires
+fits-at-requires c κs =
+    let ok = marks (c .before .before .before .before .before .before .before .before) in
+    (record {
+      marks = omega (arith, marks-most 5 _ ok);
+      low = low (c .before .before .before .before .before .before);
+      long = omega (arith, boxes-fit _ ok, c .before .before .before .before .before .before .before .before .before .before .before .pre);
+    }, (omega arith, omega arith))
+
+-- the touched counts, after the move
+judged : (c : tie.After-fits-at)
+    → let a = c .before .before .before .before .before .before .before .before .before .before .before .before .args in touched (a .m) (a .c) (fitsClass (a .into) (a .m) (a .t .now)) ≡ c .fits-at .result
+judged c =
+    let a = c .before .before .before .before .before .before .before .before .before .before .before .before .args in
+    sym (c .fits-at .ensures ∙ ap (λ (s : Shift). touched (a .m) (a .c) (fitsMoved (a .m) s (a .t .now) 0 1)) (c .before .class-shift .ensures)
+    ∙ touched-ext (a .m) (a .c) _ _ (λ b e. class-bounds (a .m) (a .into) (a .t .now) b))
 
 returns-5 : tie.Need-returns-5
-returns-5 c = sym (change-count _ _ _ _ _ (marks (c .before .before .before .before .before .before .before .before .before)) (low (c .before .before .before .before .before .before .before)) (one (c .before .before .before .before)) (stood (c .before .before .before) ∙ c .before .before .if4 .left) (sym (c .before .fits-moved .ensures) ∙ not-true _ (c .if5 .taken)))
+returns-5 c = sym (change-count _ _ _ _ _ (marks (c .before .before .before .before .before .before .before .before .before .before)) (low (c .before .before .before .before .before .before .before .before)) (one (c .before .before .before .before .before)) (stood (c .before .before .before .before) ∙ c .before .before .before .if4 .left) (judged (c .before) ∙ not-true _ (c .if5 .taken)))
 
 returns-6 : tie.Need-returns-6
-returns-6 c = sym (change-0 _ _ _ _ _ (marks (c .before .before .before .before .before .before .before .before .before)) (low (c .before .before .before .before .before .before .before)) (one (c .before .before .before .before)) (stood (c .before .before .before) ∙ c .before .before .if4 .left) (sym (c .before .fits-moved .ensures) ∙ not-false _ (c .if5 .left)))
+returns-6 c = sym (change-0 _ _ _ _ _ (marks (c .before .before .before .before .before .before .before .before .before .before)) (low (c .before .before .before .before .before .before .before .before)) (one (c .before .before .before .before .before)) (stood (c .before .before .before .before) ∙ c .before .before .before .if4 .left) (judged (c .before) ∙ not-false _ (c .if5 .left)))
 
 pub change-number-spec : {M : Type 1} → statement M
 change-number-spec =
@@ -83,6 +102,7 @@ change-number-spec =
     returns-3
     stands-requires
     returns-4
-    fits-moved-requires
+    class-shift-requires
+    fits-at-requires
     returns-5
     returns-6)

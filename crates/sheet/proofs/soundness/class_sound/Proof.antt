@@ -9,7 +9,7 @@ ones-requires : tie.Need-ones-requires
 ones-requires c κs = search needs
 
 sums-requires : tie.Need-sums-requires
-sums-requires c κs = (omega arith, omega (arith, c .before .before .before .pre .1, pow-le-pow-right {n = 3} (omega arith) {i = c .before .before .before .args .m} {j = 5} (omega arith)))
+sums-requires c κs = (omega arith, omega (arith, c .before .before .before .pre .long, pow-le-pow-right {n = 3} (omega arith) {i = c .before .before .before .args .m} {j = 5} (omega arith)))
 
 returns : tie.Need-returns
 returns c =

@@ -36,7 +36,7 @@ mul-if1 : tie.Need-mul-if1 Inv-loop μ-loop
 mul-if1 c = omega (arith, small c)
 
 shared-slice-read-if1 : tie.Need-shared-slice-read-if1 Inv-loop μ-loop
-shared-slice-read-if1 c = omega (arith, small (c .before), c .before .before .before .before .before .before .pre .1)
+shared-slice-read-if1 c = omega (arith, small (c .before), c .before .before .before .before .before .before .pre .long)
 
 returns : tie.Need-returns Inv-loop μ-loop
 returns c = decided-no refl (λ h. omega (arith, here (c .before), h (c .before .before .before .before .loop .c) (omega arith)))

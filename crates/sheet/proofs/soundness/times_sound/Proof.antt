@@ -24,10 +24,10 @@ mul-if1 : tie.Need-mul-if1
 mul-if1 c = search needs
 
 shared-slice-read-if1 : tie.Need-shared-slice-read-if1
-shared-slice-read-if1 c = omega (arith, c .before .power3 .ensures .0, c .before .before .before .pre .1, pow-le-pow-right {n = 3} (omega arith) {i = c .before .before .before .args .m} {j = 5} (omega arith), one-le-pow (c .before .before .before .args .m) 3 (omega arith))
+shared-slice-read-if1 c = omega (arith, c .before .power3 .ensures .0, c .before .before .before .pre .long, pow-le-pow-right {n = 3} (omega arith) {i = c .before .before .before .args .m} {j = 5} (omega arith), one-le-pow (c .before .before .before .args .m) 3 (omega arith))
 
 sums-requires : tie.Need-sums-requires
-sums-requires c κs = (omega arith, omega (arith, c .before .before .before .before .pre .1, pow-le-pow-right {n = 3} (omega arith) {i = c .before .before .before .before .args .m} {j = 5} (omega arith)))
+sums-requires c κs = (omega arith, omega (arith, c .before .before .before .before .pre .long, pow-le-pow-right {n = 3} (omega arith) {i = c .before .before .before .before .args .m} {j = 5} (omega arith)))
 
 returns : tie.Need-returns
 returns c =

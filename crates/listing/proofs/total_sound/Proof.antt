@@ -1,0 +1,29 @@
+-- The loop's sum is the definition's.
+use mathlib.Core.Path.{_≡_}
+use native.Mathlib.Omega.{arith}
+use lib.ListN.{length}
+use borrow.Author.Needs.{needs}
+use Rattle.sheet.proofs.Tests.{marks-most}
+use Rattle.listing.proofs.total_sound.Statement.{statement}
+use Rattle.listing.proofs.total_sound.Tie as tie
+
+long : (c : tie.Start) → (length (c .args .sheet .outside) ≡ 243) × (length (c .args .sheet .held) ≡ 243)
+long c = (search needs, search needs)
+
+slice-aggregate-in-class : tie.Need-slice-aggregate-in-class
+slice-aggregate-in-class c = search needs
+
+slice-aggregate-in-class-2 : tie.Need-slice-aggregate-in-class-2
+slice-aggregate-in-class-2 c = search needs
+
+in-class-requires : tie.Need-in-class-requires
+in-class-requires c κs =
+    let s = c .before .before .before .before in
+    (marks-most 5 _ (s .pre .marks), omega (arith, long s .0), omega (arith, long s .1))
+
+returns : tie.Need-returns
+returns c = c .in-class .ensures
+
+pub total-sound-spec : {M : Type 1} → statement M
+total-sound-spec =
+    tie.close (tie.spec slice-aggregate-in-class slice-aggregate-in-class-2 in-class-requires returns)

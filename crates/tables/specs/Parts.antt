@@ -1,0 +1,32 @@
+-- What the functions on tables ask of each other's arguments.
+use Prim.Native.Nat.{ℕ, _+_, _^_, _≤_, _<_}
+use mathlib.Core.Path.{_≡_}
+use mathlib.Core.Bool.{Bool, true, false}
+use mathlib.Core.List.{List}
+use lib.ListN.{length}
+use Rattle.boxes.specs.Boxes.{contains}
+use Rattle.tables.specs.declared.Shift.{Shift}
+use Rattle.tables.specs.declared.Shift.the-variants.{Stays, Up, Down}
+use Rattle.tables.specs.Tables.{entry}
+
+-- a table over m marks, at most 8, and one of its combinations
+pub record Over (m c : ℕ) (t : List ℕ) : Type 0 where
+  pub marks : m ≤ 8
+  pub low : c < 2 ^ m
+  pub long : 3 ^ m ≤ length t
+
+-- nothing moves
+abbrev pub staysOf : Shift → Bool
+staysOf Stays = true
+staysOf (Up d) = false
+staysOf (Down d) = false
+
+-- x has room for the shift: it stays within 0 to 2^32 - 1
+abbrev pub Bears : Shift → ℕ → Type 0
+Bears Stays x = Unit {0}
+Bears (Up d) x = x + d < 2 ^ 32
+Bears (Down d) x = d ≤ x
+
+-- and so has each entry that is shifted at c
+abbrev pub AllBear : ℕ → ℕ → Shift → List ℕ → Type 0
+AllBear m c s t = (b : ℕ) → contains m b c ≡ true → Bears s (entry t b)
