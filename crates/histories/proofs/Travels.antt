@@ -20,8 +20,8 @@ use Rattle.stored.specs.declared.Read.{Read}
 use Rattle.stored.proofs.Numbers.{Bytes}
 use Rattle.stored.proofs.Taken.{taken}
 use Rattle.stored.proofs.Trips.{form-same, told-alike, read-good, travels}
-use Rattle.histories.specs.Histories.{Good}
-use Rattle.histories.specs.Travels.{Event, change, travel, Happens, changed, stayed, travelled, Lives, rests, lives, eventNumber, afterEvent, afterEvents, eventNumbers}
+use Rattle.histories.specs.Histories.{Good, afterAll, numbersOf}
+use Rattle.histories.specs.Travels.{Event, change, travel, Happens, changed, stayed, travelled, Lives, rests, lives, eventNumber, afterEvent}
 use Rattle.histories.proofs.Kept.{did-kept}
 use Rattle.histories.proofs.Goods.{good-after}
 use Rattle.histories.proofs.Afresh.{ready-afresh}
@@ -57,8 +57,8 @@ good-event r g (travel out) = g
 -- demand 3: every sequence of calls and journeys
 
 from : (r : Record) → Good r → {s : Sheet} {es : List Event} {ns : List ℕ} {z : Sheet} → s ≡ sheetOf entries r → Lives s es ns z
-    → (ns ≡ eventNumbers r es) × (z ≡ sheetOf entries (afterEvents r es))
-unfolding eventNumbers afterEvents
+    → (ns ≡ numbersOf eventNumber afterEvent r es) × (z ≡ sheetOf entries (afterAll afterEvent r es))
+unfolding numbersOf afterAll
 from r g q rests = (refl, q)
 from r g q (lives {u = u} {e = e} {n = n} h l) =
     let k = happens-kept r g (subst (λ (x : Sheet). Happens x e n u) q h) in
@@ -66,7 +66,7 @@ from r g q (lives {u = u} {e = e} {n = n} h l) =
     (ap₂ (λ (x : ℕ) (y : List ℕ). x ∷ y) (k .0) (i .0), i .1)
 
 pub lives-afresh : (r : Record) → Good r → {es : List Event} {ns : List ℕ} {z : Sheet} → Lives (sheetOf entries r) es ns z
-    → (ns ≡ eventNumbers r es) × (z ≡ sheetOf entries (afterEvents r es))
+    → (ns ≡ numbersOf eventNumber afterEvent r es) × (z ≡ sheetOf entries (afterAll afterEvent r es))
 lives-afresh r g l = from r g refl l
 
 -- any other sheet that is read begins its history with what was read

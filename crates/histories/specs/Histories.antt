@@ -42,24 +42,22 @@ accepted r (Withdraw c d) = withTimes (λ x. r .times x - only (eqb x c) d) r
 abbrev pub after : Record → Call → Record
 after r k = cond (eqb (numberOf r k) 0) (accepted r k) r
 
--- after a sequence of calls, refused ones among them
-unfoldable pub afterAll : Record → List Call → Record
-afterAll r [] = r
-afterAll r (k ∷ ks) = afterAll (after r k) ks
+-- a sequence of steps, refused ones among them: what it leads to, each step by `next`, and the numbers given on the way
 
--- the numbers that they are answered by
-unfoldable pub numbersOf : Record → List Call → List ℕ
-numbersOf r [] = []
-numbersOf r (k ∷ ks) = numberOf r k ∷ numbersOf (after r k) ks
+unfoldable pub afterAll : {S K : Type 0} → (S → K → S) → S → List K → S
+afterAll next s [] = s
+afterAll next s (k ∷ ks) = afterAll next (next s k) ks
 
--- what the program does in the same sequence: the sheet at the end, and the numbers
-unfoldable pub sheetAfter : Sheet → List Call → Sheet
-sheetAfter s [] = s
-sheetAfter s (k ∷ ks) = sheetAfter (didOf mostMarks s k .sheet) ks
+unfoldable pub numbersOf : {S K : Type 0} → (S → K → ℕ) → (S → K → S) → S → List K → List ℕ
+numbersOf number next s [] = []
+numbersOf number next s (k ∷ ks) = number s k ∷ numbersOf number next (next s k) ks
 
-unfoldable pub answers : Sheet → List Call → List ℕ
-answers s [] = []
-answers s (k ∷ ks) = didOf mostMarks s k .number ∷ answers (didOf mostMarks s k .sheet) ks
+-- what the program does in one call: the sheet that is left, and the number
+abbrev pub sheetAfter : Sheet → Call → Sheet
+sheetAfter s k = didOf mostMarks s k .sheet
+
+abbrev pub numberGiven : Sheet → Call → ℕ
+numberGiven s k = didOf mostMarks s k .number
 
 -- the list of the record's class in a lent area: the number 0 with the length of the first shortest list, which stands at the front, and the bytes
 -- behind it as they were

@@ -43,11 +43,3 @@ eventNumber r (travel out) = cond (ltb (length out) (length (form r))) 5 0
 abbrev pub afterEvent : Record → Event → Record
 afterEvent r (change k) = after r k
 afterEvent r (travel out) = r
-
-unfoldable pub afterEvents : Record → List Event → Record
-afterEvents r [] = r
-afterEvents r (e ∷ es) = afterEvents (afterEvent r e) es
-
-unfoldable pub eventNumbers : Record → List Event → List ℕ
-eventNumbers r [] = []
-eventNumbers r (e ∷ es) = eventNumber r e ∷ eventNumbers (afterEvent r e) es

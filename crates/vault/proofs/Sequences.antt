@@ -21,7 +21,7 @@ use Rattle.stored.specs.Form.{form}
 use Rattle.stored.specs.declared.Read.{Read}
 use Rattle.stored.proofs.Trips.{form-same-sheet, writes-done}
 use Rattle.sheet.specs.Calls.{didOf}
-use Rattle.histories.specs.Histories.{Good, numberOf, after}
+use Rattle.histories.specs.Histories.{Good, numberOf, after, afterAll, numbersOf}
 use Rattle.histories.specs.Travels.{eventNumber, travel}
 use Rattle.sheet.specs.declared.Call.{Call}
 use Rattle.histories.proofs.Kept.{did-kept}
@@ -29,15 +29,15 @@ use Rattle.histories.proofs.Goods.{good-after, good-opened}
 use Rattle.histories.proofs.Travels.{form-kept, written-number, five}
 use Rattle.vault.specs.declared.Reply.{Reply}
 use Rattle.vault.specs.Entries.{Put, Changes}
-use Rattle.vault.specs.Sequences.{Entry, entry, Serves, rests, accepted, refused, entryNumber, afterEntry, afterEntries, entryNumbers}
+use Rattle.vault.specs.Sequences.{Entry, changing, Serves, rests, accepted, refused, entryNumber, afterEntry}
 
 reads-form : (r : Record) → Good r → {a : Read} → Reads mostMarks entries (form r) a → a ≡ readOf entries (good r)
 reads-form r g {a} x =
     form-same-sheet 5 243 five (omega arith) r (g .marks) (g .times) (subst (λ (t : List ℕ). Reads mostMarks entries t a) (sym (form-kept r g)) x)
 
 -- one entry: its number; and where that is 0, the form of the record after the call, at the front of what was lent
-pub record Kept (r : Record) (k : Call) (out : List ℕ) (reply : Reply) (later : List ℕ) : Type 0 where
-  pub number : reply .answer ≡ entryNumber r (entry k out)
+pub record EntryKept (r : Record) (k : Call) (out : List ℕ) (reply : Reply) (later : List ℕ) : Type 0 where
+  pub number : reply .answer ≡ entryNumber r (changing k out)
   pub done : reply .answer ≡ 0 → take (reply .value) later ≡ form (after r k)
   pub left : (reply .answer ≡ 0 → ⊥) → later ≡ out
 
@@ -48,7 +48,7 @@ untouched (Writes.short f l) n = refl
 untouched (Writes.written f l) n = absurd (n refl)
 
 put-kept : (r : Record) → Good r → (k : Call) {out : List ℕ} {reply : Reply} {later : List ℕ}
-    → Put (record { number = numberOf r k; sheet = sheetOf entries (after r k) }) out reply later → Kept r k out reply later
+    → Put (record { number = numberOf r k; sheet = sheetOf entries (after r k) }) out reply later → EntryKept r k out reply later
 put-kept r g k {out} (Put.refused n) = record {
   number = ap (λ (t : Bool). cond t (eventNumber (after r k) (travel out)) (numberOf r k)) (sym (ne-eqb (numberOf r k) 0 n));
   done = λ z. absurd (n z);
@@ -64,35 +64,35 @@ put-kept r g k {out} (Put.written {v = v} z w) =
     }
 
 changes-kept : (r : Record) → Good r → (k : Call) {out : List ℕ} {reply : Reply} {later : List ℕ} → Changes (λ s. didOf mostMarks s k) (form r) out reply later
-    → Kept r k out reply later
+    → EntryKept r k out reply later
 changes-kept r g k (Changes.unread u) = absurd (u .bad (ap (λ (a : Read). a .number) (reads-form r g (u .reads))))
 changes-kept r g k {out} {reply} {later} (Changes.called {s = s} t p) =
     let is : s ≡ sheetOf entries r = sym (t .sheet) ∙ ap (λ (a : Read). a .sheet) (reads-form r g (t .reads)) in
     put-kept r g k (subst (λ (a : Answer). Put a out reply later) (ap (λ (x : Sheet). didOf mostMarks x k) is ∙ did-kept r g k) p)
 
 good-entry : (r : Record) → Good r → (e : Entry) → Good (afterEntry r e)
-good-entry r g (entry k out) =
-    if (eqb (entryNumber r (entry k out)) 0)
+good-entry r g (changing k out) =
+    if (eqb (entryNumber r (changing k out)) 0)
     (λ e. subst (λ (t : Bool). Good (cond t (after r k) r)) (sym e) (good-after r g k))
     (λ e. subst (λ (t : Bool). Good (cond t (after r k) r)) (sym e) g)
 
 -- demand 3: after every sequence of entries the bytes are the form of the record worked out from the accepted calls, and every answer is the record's
 from : (r : Record) → Good r → {t : List ℕ} {es : List Entry} {ns z : List ℕ} → t ≡ form r → Serves t es ns z
-    → (ns ≡ entryNumbers r es) × (z ≡ form (afterEntries r es))
-unfolding entryNumbers afterEntries
+    → (ns ≡ numbersOf entryNumber afterEntry r es) × (z ≡ form (afterAll afterEntry r es))
+unfolding numbersOf afterAll
 from r g q rests = (refl, q)
 from r g q (accepted {out = out} {later = later} {k = k} {r = reply} c d l) =
     let w = changes-kept r g k (subst (λ (x : List ℕ). Changes (λ s. didOf mostMarks s k) x out reply later) q c) in
-    let same : afterEntry r (entry k out) ≡ after r k = ap (λ (t : Bool). cond t (after r k) r) (eq-eqb (entryNumber r (entry k out)) 0 (sym (w .number) ∙ d)) in
-    let i = from (afterEntry r (entry k out)) (good-entry r g (entry k out)) (w .done d ∙ ap form (sym same)) l in
+    let same : afterEntry r (changing k out) ≡ after r k = ap (λ (t : Bool). cond t (after r k) r) (eq-eqb (entryNumber r (changing k out)) 0 (sym (w .number) ∙ d)) in
+    let i = from (afterEntry r (changing k out)) (good-entry r g (changing k out)) (w .done d ∙ ap form (sym same)) l in
     (ap₂ (λ (x : ℕ) (y : List ℕ). x ∷ y) (w .number) (i .0), i .1)
 from r g q (refused {out = out} {later = later} {k = k} {r = reply} c d l) =
     let w = changes-kept r g k (subst (λ (x : List ℕ). Changes (λ s. didOf mostMarks s k) x out reply later) q c) in
-    let same : afterEntry r (entry k out) ≡ r = ap (λ (t : Bool). cond t (after r k) r) (ne-eqb (entryNumber r (entry k out)) 0 (λ z. d (w .number ∙ z))) in
-    let i = from (afterEntry r (entry k out)) (good-entry r g (entry k out)) (q ∙ ap form (sym same)) l in
+    let same : afterEntry r (changing k out) ≡ r = ap (λ (t : Bool). cond t (after r k) r) (ne-eqb (entryNumber r (changing k out)) 0 (λ z. d (w .number ∙ z))) in
+    let i = from (afterEntry r (changing k out)) (good-entry r g (changing k out)) (q ∙ ap form (sym same)) l in
     (ap₂ (λ (x : ℕ) (y : List ℕ). x ∷ y) (w .number) (i .0), i .1)
 
-pub serves-afresh : (r : Record) → Good r → {es : List Entry} {ns z : List ℕ} → Serves (form r) es ns z → (ns ≡ entryNumbers r es) × (z ≡ form (afterEntries r es))
+pub serves-afresh : (r : Record) → Good r → {es : List Entry} {ns z : List ℕ} → Serves (form r) es ns z → (ns ≡ numbersOf entryNumber afterEntry r es) × (z ≡ form (afterAll afterEntry r es))
 serves-afresh r g l = from r g refl l
 
 -- it begins with what `vault_open` wrote: the form of an opened sheet's record; a refused one writes nothing

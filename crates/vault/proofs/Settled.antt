@@ -3,6 +3,7 @@ use Prim.Native.Nat.{ℕ}
 use mathlib.Core.Path.{_≡_, refl, sym, _∙_, ap, subst}
 use mathlib.Core.List.{List}
 use Rattle.sheet.specs.Limits.{mostMarks}
+use Rattle.sheet.specs.Record.{Table}
 use Rattle.sheet.specs.Calls.{ClassSize}
 use Rattle.sheet.specs.declared.Sheet.{Sheet}
 use Rattle.sheet.specs.declared.Answer.{Answer}
@@ -16,17 +17,17 @@ use Rattle.times.specs.Answers.{Answered}
 use Rattle.times.specs.declared.Reading.{Reading}
 use Rattle.times.proofs.Settled.{answer-settled}
 use Rattle.vault.specs.declared.Reply.{Reply}
-use Rattle.vault.specs.Entries.{replied, Taken, Untaken, Put, Changes, Tells, Lends, Compared, OutsideOf, HeldOf, readingOf}
+use Rattle.vault.specs.Entries.{replied, Holds, HoldsNone, Put, Changes, Tells, Lends, Compared, KeptAt, timeIn}
 
 -- what the bytes read as
 
-one-sheet : {t : List ℕ} {s u : Sheet} → Taken t s → Taken t u → s ≡ u
+one-sheet : {t : List ℕ} {s u : Sheet} → Holds t s → Holds t u → s ≡ u
 one-sheet p q = sym (p .sheet) ∙ ap (λ (a : Read). a .sheet) (reads-settled (p .reads) (q .reads)) ∙ q .sheet
 
-one-refusal : {t : List ℕ} {r z : Reply} → Untaken t r → Untaken t z → r ≡ z
+one-refusal : {t : List ℕ} {r z : Reply} → HoldsNone t r → HoldsNone t z → r ≡ z
 one-refusal p q = p .reply ∙ ap (λ (a : Read). record { answer = a .number; place = a .place; value = 0 }) (reads-settled (p .reads) (q .reads)) ∙ sym (q .reply)
 
-not-both : {t : List ℕ} {r : Reply} {s : Sheet} → Untaken t r → Taken t s → ⊥
+not-both : {t : List ℕ} {r : Reply} {s : Sheet} → HoldsNone t r → Holds t s → ⊥
 not-both p q = p .bad (ap (λ (a : Read). a .number) (reads-settled (p .reads) (q .reads)) ∙ q .good)
 
 -- what is written
@@ -74,11 +75,8 @@ vault-size-settled = tells-settled (λ s v w. size-settled)
 pub vault-total-settled : {t : List ℕ} {r z : Reply} → Tells (Totalled mostMarks) t r → Tells (Totalled mostMarks) t z → r ≡ z
 vault-total-settled = tells-settled (λ s v w. total-settled)
 
-pub vault-outside-settled : {b : ℕ} {t : List ℕ} {r z : Reply} → Tells (OutsideOf b) t r → Tells (OutsideOf b) t z → r ≡ z
-vault-outside-settled = tells-settled (λ s v w p q. p ∙ sym q)
-
-pub vault-held-settled : {b : ℕ} {t : List ℕ} {r z : Reply} → Tells (HeldOf b) t r → Tells (HeldOf b) t z → r ≡ z
-vault-held-settled = tells-settled (λ s v w p q. p ∙ sym q)
+pub vault-kept-settled : {k : Table} {b : ℕ} {t : List ℕ} {r z : Reply} → Tells (KeptAt k b) t r → Tells (KeptAt k b) t z → r ≡ z
+vault-kept-settled = tells-settled (λ s v w p q. p ∙ sym q)
 
 pub vault-list-settled : {t area x y : List ℕ} {r z : Reply} → Lends (Listed mostMarks) t area r x → Lends (Listed mostMarks) t area z y → (r ≡ z) × (x ≡ y)
 vault-list-settled = lends-settled (λ s area v w x y. list-settled)
@@ -89,5 +87,5 @@ before-settled (Compared.keeps p) (Compared.changes q) = absurd (p q)
 before-settled (Compared.changes p) (Compared.keeps q) = absurd (q p)
 before-settled (Compared.changes p) (Compared.changes q) = refl
 
-pub time-settled : {t : List ℕ} {r z : Reply} → Answered t (readingOf r) → Answered t (readingOf z) → r ≡ z
+pub time-settled : {t : List ℕ} {r z : Reply} → Answered t (timeIn r) → Answered t (timeIn z) → r ≡ z
 time-settled p q = ap (λ (x : Reading). record { answer = x .answer; place = x .place; value = x .value }) (answer-settled p q)

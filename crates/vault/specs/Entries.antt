@@ -7,6 +7,7 @@ use Rattle.lists.specs.Lists.{Before}
 use Rattle.tables.specs.Tables.{entry}
 use Rattle.times.specs.declared.Reading.{Reading}
 use Rattle.sheet.specs.Limits.{mostMarks, entries}
+use Rattle.sheet.specs.Record.{Table, kept}
 use Rattle.sheet.specs.declared.Sheet.{Sheet}
 use Rattle.sheet.specs.declared.Answer.{Answer}
 use Rattle.sheet.specs.declared.Value.{Value}
@@ -18,14 +19,14 @@ use Rattle.vault.specs.declared.Reply.{Reply}
 abbrev pub replied : ℕ → ℕ → Reply
 replied number value = record { answer = number; place = 0; value = value }
 
--- the bytes that were lent read as this sheet; or they do not, and the number and the place are replied
-pub record Taken (t : List ℕ) (s : Sheet) : Type 0 where
+-- the bytes that were lent hold this sheet; or they hold none, and the number and the place of reading them are replied
+pub record Holds (t : List ℕ) (s : Sheet) : Type 0 where
   pub read : Read
   pub reads : Reads mostMarks entries t read
   pub good : read .number ≡ 0
   pub sheet : read .sheet ≡ s
 
-pub record Untaken (t : List ℕ) (r : Reply) : Type 0 where
+pub record HoldsNone (t : List ℕ) (r : Reply) : Type 0 where
   pub read : Read
   pub reads : Reads mostMarks entries t read
   pub bad : read .number ≡ 0 → ⊥
@@ -38,29 +39,26 @@ pub data Put (a : Answer) (out : List ℕ) : Reply → List ℕ → Type 0 where
 
 -- an entry that changes the sheet in the bytes t by a call, and writes it to the bytes `out`
 pub data Changes (call : Sheet → Answer) (t out : List ℕ) : Reply → List ℕ → Type 0 where
-  unread : {r : Reply} → Untaken t r → Changes call t out r out
-  called : {s : Sheet} {r : Reply} {later : List ℕ} → Taken t s → Put (call s) out r later → Changes call t out r later
+  unread : {r : Reply} → HoldsNone t r → Changes call t out r out
+  called : {s : Sheet} {r : Reply} {later : List ℕ} → Holds t s → Put (call s) out r later → Changes call t out r later
 
 -- an entry that reads a value off the sheet in the bytes t
 pub data Tells (call : Sheet → Value → Type 0) (t : List ℕ) : Reply → Type 0 where
-  unread : {r : Reply} → Untaken t r → Tells call t r
-  told : {s : Sheet} {v : Value} → Taken t s → call s v → Tells call t (replied (v .number) (v .value))
+  unread : {r : Reply} → HoldsNone t r → Tells call t r
+  told : {s : Sheet} {v : Value} → Holds t s → call s v → Tells call t (replied (v .number) (v .value))
 
 -- an entry that puts something of the sheet in the bytes t into a lent area
 pub data Lends (call : Sheet → List ℕ → Value → List ℕ → Type 0) (t area : List ℕ) : Reply → List ℕ → Type 0 where
-  unread : {r : Reply} → Untaken t r → Lends call t area r area
-  lent : {s : Sheet} {v : Value} {later : List ℕ} → Taken t s → call s area v later → Lends call t area (replied (v .number) (v .value)) later
+  unread : {r : Reply} → HoldsNone t r → Lends call t area r area
+  lent : {s : Sheet} {v : Value} {later : List ℕ} → Holds t s → call s area v later → Lends call t area (replied (v .number) (v .value)) later
 
 -- a sheet as it is, to be written again
 abbrev pub same : Sheet → Answer
 same s = record { number = 0; sheet = s }
 
--- the kept numbers of one line; a number that is no box of the sheet has 0 for both
-abbrev pub OutsideOf : ℕ → Sheet → Value → Type 0
-OutsideOf b s v = v ≡ record { number = 0; value = entry (s .outside) b }
-
-abbrev pub HeldOf : ℕ → Sheet → Value → Type 0
-HeldOf b s v = v ≡ record { number = 0; value = entry (s .held) b }
+-- the number that a table keeps of one line; one that is no box of the sheet has 0
+abbrev pub KeptAt : Table → ℕ → Sheet → Value → Type 0
+KeptAt t b s v = v ≡ record { number = 0; value = entry (kept t s) b }
 
 -- 1 exactly if the second lent list is before the first
 pub data Compared (first second : List ℕ) : Reply → Type 0 where
@@ -68,5 +66,5 @@ pub data Compared (first second : List ℕ) : Reply → Type 0 where
   changes : Before second first → Compared first second (replied 0 1)
 
 -- the reply of a running time, as the reading of `times`
-abbrev pub readingOf : Reply → Reading
-readingOf r = record { answer = r .answer; place = r .place; value = r .value }
+abbrev pub timeIn : Reply → Reading
+timeIn r = record { answer = r .answer; place = r .place; value = r .value }

@@ -16,28 +16,20 @@ use Rattle.vault.specs.Entries.{Changes}
 
 -- an entry that changes a sheet, with the bytes lent for what it leaves
 pub data Entry : Type 0 where
-  entry : Call → (out : List ℕ) → Entry
+  changing : Call → (out : List ℕ) → Entry
 
 -- what the program does with the bytes t, by the contracts of the entries
 pub data Serves : List ℕ → List Entry → List ℕ → List ℕ → Type 0 where
   rests : {t : List ℕ} → Serves t [] [] t
   accepted : {t out later z : List ℕ} {k : Call} {r : Reply} {es : List Entry} {ns : List ℕ} → Changes (λ s. didOf mostMarks s k) t out r later → r .answer ≡ 0
-      → Serves (take (r .value) later) es ns z → Serves t (entry k out ∷ es) (r .answer ∷ ns) z
+      → Serves (take (r .value) later) es ns z → Serves t (changing k out ∷ es) (r .answer ∷ ns) z
   refused : {t out later z : List ℕ} {k : Call} {r : Reply} {es : List Entry} {ns : List ℕ} → Changes (λ s. didOf mostMarks s k) t out r later → (r .answer ≡ 0 → ⊥)
-      → Serves t es ns z → Serves t (entry k out ∷ es) (r .answer ∷ ns) z
+      → Serves t es ns z → Serves t (changing k out ∷ es) (r .answer ∷ ns) z
 
 -- from the record alone: the call's number, and then 5 exactly if the room is below the length of the form; a change answered 5 is not accepted
 
 abbrev pub entryNumber : Record → Entry → ℕ
-entryNumber r (entry k out) = cond (eqb (numberOf r k) 0) (cond (ltb (length out) (length (form (after r k)))) 5 0) (numberOf r k)
+entryNumber r (changing k out) = cond (eqb (numberOf r k) 0) (cond (ltb (length out) (length (form (after r k)))) 5 0) (numberOf r k)
 
 abbrev pub afterEntry : Record → Entry → Record
-afterEntry r (entry k out) = cond (eqb (entryNumber r (entry k out)) 0) (after r k) r
-
-unfoldable pub afterEntries : Record → List Entry → Record
-afterEntries r [] = r
-afterEntries r (e ∷ es) = afterEntries (afterEntry r e) es
-
-unfoldable pub entryNumbers : Record → List Entry → List ℕ
-entryNumbers r [] = []
-entryNumbers r (e ∷ es) = entryNumber r e ∷ entryNumbers (afterEntry r e) es
+afterEntry r (changing k out) = cond (eqb (entryNumber r (changing k out)) 0) (after r k) r

@@ -1,13 +1,17 @@
 // The library for C programs: include/vault.h says what each entry does. An entry reads the lent sheet, makes one call on it, and writes what is left.
 ghost use mathlib.Core.Path.{_≡_};
-ghost use mathlib.Core.Bool.{true, false};
-ghost use Rattle.sheet.specs.Limits.{mostMarks, entries};
-ghost use Rattle.sheet.specs.Calls.{openOf, changeOf, receiveOf, withdrawOf, ClassSize};
-ghost use Rattle.listing.specs.Listing.{Listed, Totalled};
 ghost use Rattle.tables.specs.Tables.{entry};
+ghost use Rattle.sheet.specs.Limits.{mostMarks, entries};
+ghost use Rattle.sheet.specs.Record.{outside-counts, held-seconds};
+ghost use Rattle.sheet.specs.Sound.{Ready};
+ghost use Rattle.sheet.specs.Calls.{openOf, didOf, ClassSize};
+ghost use Rattle.sheet.specs.declared.Call.the-variants.{Enter, Leave, Receive, Withdraw};
+ghost use Rattle.listing.specs.Listing.{Listed, Totalled};
 ghost use Rattle.times.specs.Answers.{Answered};
-ghost use Rattle.vault.specs.Entries.{Put, Changes, Tells, Lends, Compared, OutsideOf, HeldOf, same, replied, readingOf};
+ghost use Rattle.vault.specs.Entries.{Put, Changes, Tells, Lends, Compared, KeptAt, same, replied, timeIn};
+ghost use Rattle.vault.specs.Parts.{AnswerTo};
 use sheet::Answer;
+use sheet::Call;
 use sheet::Sheet;
 use sheet::Value;
 use stored::Read;
@@ -44,6 +48,7 @@ fn replied(v: Value) -> Reply
 
 // The sheet that a call left, written; or the call's refusal.
 fn put(a: Answer, out: &mut [u8]) -> Reply
+    requires { ⌜ Ready mostMarks (a .sheet) ⌝ }
     ensures { λ r. ⌜ Put a (now (out .entry)) r (now (out .exit)) ⌝ }
 {
     let number = a.number;
@@ -51,7 +56,19 @@ fn put(a: Answer, out: &mut [u8]) -> Reply
         return replied(Value { number, value: 0 });
     }
     let sheet = a.sheet;
-    replied(writing::write(sheet, out))
+    replied(writing::write_sound(sheet, out))
+}
+
+// Makes a call on the lent sheet, and writes what is left.
+fn change(sheet: &[u8], call: Call, out: &mut [u8]) -> Reply
+    ensures { λ r. ⌜ Changes (λ s. didOf mostMarks s call) (now (sheet .entry)) (now (out .entry)) r (now (out .exit)) ⌝ }
+{
+    let read = reading::read(sheet);
+    if read.number != 0 {
+        return unread(read);
+    }
+    let s = read.sheet;
+    put(s.did(call), out)
 }
 
 // A kept number of the box b.
@@ -71,6 +88,48 @@ fn kept(t: [u32; Sheet::ENTRIES], b: u64) -> Value
     }
 }
 
+// What a lent sheet is asked: a value of its class, or the numbers that it keeps of a line.
+pub enum Question {
+    Size,
+    Total,
+    Outside(u64),
+    Held(u64),
+}
+
+fn done(value: u64) -> Value
+    ensures { λ r. ⌜ r ≡ record { number = 0; value = value } ⌝ }
+{
+    Value { number: 0, value }
+}
+
+// What a sound sheet answers.
+fn answer(s: Sheet, q: Question) -> Value
+    requires { ⌜ Ready mostMarks s ⌝ }
+    ensures { λ r. ⌜ AnswerTo q s r ⌝ }
+{
+    let outside = s.outside;
+    let held = s.held;
+    match q {
+        Question::Size => done(s.size_sound()),
+        Question::Total => done(listing::total_sound(s)),
+        Question::Outside(b) => kept(outside, b),
+        Question::Held(b) => kept(held, b),
+    }
+}
+
+// Asks the lent sheet.
+fn tell(sheet: &[u8], q: Question) -> Reply
+    ensures { λ r. ⌜ Tells (AnswerTo q) (now (sheet .entry)) r ⌝ }
+{
+    let read = reading::read(sheet);
+    if read.number != 0 {
+        return unread(read);
+    }
+    let s = read.sheet;
+    replied(answer(s, q))
+}
+
+// A sheet of so many marks.
 #[no_mangle]
 pub extern "C" fn vault_open(marks: u64, out: &mut [u8]) -> Reply
     ensures { λ r. ⌜ Put (openOf mostMarks entries marks) (now (out .entry)) r (now (out .exit)) ⌝ }
@@ -78,30 +137,23 @@ pub extern "C" fn vault_open(marks: u64, out: &mut [u8]) -> Reply
     put(Sheet::open(marks as usize), out)
 }
 
+// Into the class.
 #[no_mangle]
 pub extern "C" fn vault_enter(sheet: &[u8], combination: u64, out: &mut [u8]) -> Reply
-    ensures { λ r. ⌜ Changes (λ s. changeOf mostMarks true s combination) (now (sheet .entry)) (now (out .entry)) r (now (out .exit)) ⌝ }
+    ensures { λ r. ⌜ Changes (λ s. didOf mostMarks s (Enter combination)) (now (sheet .entry)) (now (out .entry)) r (now (out .exit)) ⌝ }
 {
-    let read = reading::read(sheet);
-    if read.number != 0 {
-        return unread(read);
-    }
-    let s = read.sheet;
-    put(s.enter(combination as usize), out)
+    change(sheet, Call::Enter(combination as usize), out)
 }
 
+// Out of the class.
 #[no_mangle]
 pub extern "C" fn vault_leave(sheet: &[u8], combination: u64, out: &mut [u8]) -> Reply
-    ensures { λ r. ⌜ Changes (λ s. changeOf mostMarks false s combination) (now (sheet .entry)) (now (out .entry)) r (now (out .exit)) ⌝ }
+    ensures { λ r. ⌜ Changes (λ s. didOf mostMarks s (Leave combination)) (now (sheet .entry)) (now (out .entry)) r (now (out .exit)) ⌝ }
 {
-    let read = reading::read(sheet);
-    if read.number != 0 {
-        return unread(read);
-    }
-    let s = read.sheet;
-    put(s.leave(combination as usize), out)
+    change(sheet, Call::Leave(combination as usize), out)
 }
 
+// A receipt.
 #[no_mangle]
 pub extern "C" fn vault_receive(
     sheet: &[u8],
@@ -109,16 +161,12 @@ pub extern "C" fn vault_receive(
     seconds: u64,
     out: &mut [u8],
 ) -> Reply
-    ensures { λ r. ⌜ Changes (λ s. receiveOf mostMarks s combination seconds) (now (sheet .entry)) (now (out .entry)) r (now (out .exit)) ⌝ }
+    ensures { λ r. ⌜ Changes (λ s. didOf mostMarks s (Receive combination seconds)) (now (sheet .entry)) (now (out .entry)) r (now (out .exit)) ⌝ }
 {
-    let read = reading::read(sheet);
-    if read.number != 0 {
-        return unread(read);
-    }
-    let s = read.sheet;
-    put(s.receive(combination as usize, seconds), out)
+    change(sheet, Call::Receive(combination as usize, seconds), out)
 }
 
+// A withdrawal.
 #[no_mangle]
 pub extern "C" fn vault_withdraw(
     sheet: &[u8],
@@ -126,14 +174,9 @@ pub extern "C" fn vault_withdraw(
     seconds: u64,
     out: &mut [u8],
 ) -> Reply
-    ensures { λ r. ⌜ Changes (λ s. withdrawOf mostMarks s combination seconds) (now (sheet .entry)) (now (out .entry)) r (now (out .exit)) ⌝ }
+    ensures { λ r. ⌜ Changes (λ s. didOf mostMarks s (Withdraw combination seconds)) (now (sheet .entry)) (now (out .entry)) r (now (out .exit)) ⌝ }
 {
-    let read = reading::read(sheet);
-    if read.number != 0 {
-        return unread(read);
-    }
-    let s = read.sheet;
-    put(s.withdraw(combination as usize, seconds), out)
+    change(sheet, Call::Withdraw(combination as usize, seconds), out)
 }
 
 // What was read, written again.
@@ -155,6 +198,7 @@ pub extern "C" fn vault_copy(sheet: &[u8], out: &mut [u8]) -> Reply
     )
 }
 
+// The shortest list of the class.
 #[no_mangle]
 pub extern "C" fn vault_list(sheet: &[u8], area: &mut [u8]) -> Reply
     ensures { λ r. ⌜ Lends (Listed mostMarks) (now (sheet .entry)) (now (area .entry)) r (now (area .exit)) ⌝ }
@@ -164,57 +208,39 @@ pub extern "C" fn vault_list(sheet: &[u8], area: &mut [u8]) -> Reply
         return unread(read);
     }
     let s = read.sheet;
-    replied(listing::list(s, area))
+    replied(listing::list_sound(s, area))
 }
 
+// How many combinations are in the class.
 #[no_mangle]
 pub extern "C" fn vault_class_size(sheet: &[u8]) -> Reply
     ensures { λ r. ⌜ Tells (ClassSize mostMarks) (now (sheet .entry)) r ⌝ }
 {
-    let read = reading::read(sheet);
-    if read.number != 0 {
-        return unread(read);
-    }
-    let s = read.sheet;
-    replied(s.class_size())
+    tell(sheet, Question::Size)
 }
 
+// The seconds held in the class.
 #[no_mangle]
 pub extern "C" fn vault_total(sheet: &[u8]) -> Reply
     ensures { λ r. ⌜ Tells (Totalled mostMarks) (now (sheet .entry)) r ⌝ }
 {
-    let read = reading::read(sheet);
-    if read.number != 0 {
-        return unread(read);
-    }
-    let s = read.sheet;
-    replied(listing::total(s))
+    tell(sheet, Question::Total)
 }
 
+// The outside count of a line.
 #[no_mangle]
 pub extern "C" fn vault_outside(sheet: &[u8], line: u64) -> Reply
-    ensures { λ r. ⌜ Tells (OutsideOf line) (now (sheet .entry)) r ⌝ }
+    ensures { λ r. ⌜ Tells (KeptAt outside-counts line) (now (sheet .entry)) r ⌝ }
 {
-    let read = reading::read(sheet);
-    if read.number != 0 {
-        return unread(read);
-    }
-    let s = read.sheet;
-    let outside = s.outside;
-    replied(kept(outside, line))
+    tell(sheet, Question::Outside(line))
 }
 
+// The held seconds of a line.
 #[no_mangle]
 pub extern "C" fn vault_held(sheet: &[u8], line: u64) -> Reply
-    ensures { λ r. ⌜ Tells (HeldOf line) (now (sheet .entry)) r ⌝ }
+    ensures { λ r. ⌜ Tells (KeptAt held-seconds line) (now (sheet .entry)) r ⌝ }
 {
-    let read = reading::read(sheet);
-    if read.number != 0 {
-        return unread(read);
-    }
-    let s = read.sheet;
-    let held = s.held;
-    replied(kept(held, line))
+    tell(sheet, Question::Held(line))
 }
 
 // Which of two lent lists is before the other: 0 the first, also if they are equal, 1 the second.
@@ -234,9 +260,10 @@ pub extern "C" fn vault_before(first: &[u8], second: &[u8]) -> Reply
     })
 }
 
+// A running time.
 #[no_mangle]
 pub extern "C" fn vault_read_time(text: &[u8]) -> Reply
-    ensures { λ r. ⌜ Answered (now (text .entry)) (readingOf r) ⌝ }
+    ensures { λ r. ⌜ Answered (now (text .entry)) (timeIn r) ⌝ }
 {
     let r = times::answer(text);
     Reply {
