@@ -1,7 +1,7 @@
 -- A fitting list exists wherever what is needed has room, and over m + 1 marks one of at most 2 ^ m boxes: for each pair of combinations that
 -- differ in mark 0, the pair's own box where both are needed, and otherwise the box of the one that is.
 use mathlib.Core.Path.{_≡_, refl, sym, ap, _∙_, subst, fun-ext}
-use mathlib.Core.Bool.{Bool, true, false, not, _&&_, and-false}
+use mathlib.Core.Bool.{Bool, true, false, not, _&&_, and-true, and-false}
 use mathlib.Core.List.{List, [], _∷_}
 use Prim.Native.Nat.{ℕ, zero, suc, _+_, _*_, _/_, _%_, _^_, _<_, _≤_, zero-le, max}
 use native.Mathlib.Nat.{pow-suc, le-refl}
@@ -10,10 +10,9 @@ use lib.Dec.{eqb, ltb, lit<}
 use lib.ListN.{length}
 use borrow.Author.Tests.{eq-eqb, ne-eqb, eqb-true, lt-ltb, le-ltb}
 use Rattle.boxes.specs.Boxes.{agrees, contains, through, single}
-use Rattle.ground.proofs.Cases.{if, below-or, same-or, and-left, and-right}
+use Rattle.ground.proofs.Cases.{if, clash, below-or, same-or, and-left, and-right}
 use Rattle.boxes.proofs.Choices.{through-lt, single-contains}
 use Rattle.lists.specs.Lists.{Fits, FirstShortest}
-use Rattle.lists.proofs.Count.{clash}
 use Rattle.lists.proofs.Fit.{less, fits-cons, fits-none, fits-room, fits-small}
 use Rattle.lists.proofs.Lay.{Small}
 
@@ -68,12 +67,8 @@ module _ (m : ℕ) (need : ℕ → Bool) where
   -- nothing of pair k is needed
   without : (k : ℕ) → ((c : ℕ) → ofPair k c ≡ false) → Listed k → Listed (suc k)
   without k none y =
-      let e : upto k ≡ upto (suc k) = fun-ext (λ c. sym (upto-less k c) ∙ ap (λ (x : Bool). upto (suc k) c && not x) (none c) ∙ and-on (upto (suc k) c)) in
+      let e : upto k ≡ upto (suc k) = fun-ext (λ c. sym (upto-less k c) ∙ ap (λ (x : Bool). upto (suc k) c && not x) (none c) ∙ and-true (upto (suc k) c)) in
       (y .0, subst (λ (p : ℕ → Bool). Fits (suc m) p p (y .0)) e (y .1), omega (arith, y .2))
-    where
-      and-on : (x : Bool) → (x && not false) ≡ x
-      and-on true = refl
-      and-on false = refl
 
   -- a test of pair k by its two combinations
   by-pair : (k : ℕ) (p : ℕ → Bool) → ((c : ℕ) → p c ≡ true → c / 2 ≡ k) → p (k * 2) ≡ need (k * 2) → p (k * 2 + 1) ≡ need (k * 2 + 1) → (c : ℕ) → p c ≡ ofPair k c

@@ -1,7 +1,7 @@
 -- Laying boxes one after the other on the lowest needed combination c, where every fitting list has `left` boxes and one more: the boxes through c
 -- are tried in rising number, and the first that leaves a list of `left` boxes is the front of the first shortest list.
 use mathlib.Core.Path.{_≡_, refl, sym, ap, _∙_, subst}
-use mathlib.Core.Bool.{Bool, true, false, false≢true}
+use mathlib.Core.Bool.{Bool, true, false≢true}
 use mathlib.Core.List.{List, [], _∷_}
 use mathlib.Core.Logic.{_⊎_, inl, inr}
 use Prim.Native.Nat.{ℕ, _+_, _^_, _<_, _≤_, zero-le}

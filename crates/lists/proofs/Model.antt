@@ -11,11 +11,10 @@ use lib.Dec.{ltb}
 use lib.ListN.{length}
 use borrow.Author.Tests.{lt-ltb, le-ltb, not-true}
 use Rattle.boxes.specs.Boxes.{contains, through}
-use Rattle.ground.proofs.Cases.{if, below-or, and-left, and-right}
+use Rattle.ground.proofs.Cases.{if, clash, below-or, and-left, and-right}
 use Rattle.boxes.proofs.Boxes.{contains-combination}
 use Rattle.boxes.proofs.Choices.{through-lt}
 use Rattle.lists.specs.Lists.{Fits, lowestOf, FirstShortest}
-use Rattle.lists.proofs.Count.{clash}
 use Rattle.lists.proofs.Fit.{less, Inside, lowest-true, lowest-le}
 use Rattle.lists.proofs.Lay.{AtLeast, Small, none-needed, first-empty, some-box, Tried, tried-none, tried-next, longer-out, longer-deep, least-rest, laid, tried-all}
 use Rattle.lists.proofs.Exist.{exists}

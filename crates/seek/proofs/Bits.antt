@@ -12,9 +12,8 @@ use lib.Dec.{eqb}
 use lib.Pow.{shr-shr}
 use borrow.Author.Tests.{eqb-true, eqb-false, eq-eqb, ne-eqb}
 use Rattle.boxes.specs.Boxes.{contains}
-use Rattle.ground.proofs.Cases.{if, below-or, mark, and-right}
+use Rattle.ground.proofs.Cases.{if, clash, below-or, mark, and-right}
 use Rattle.lists.specs.Lists.{lowestOf}
-use Rattle.lists.proofs.Count.{clash}
 use Rattle.lists.proofs.Fit.{less, Inside, lowest-is}
 use Rattle.lists.proofs.Lay.{Small}
 use Rattle.seek.specs.Answer.{has}

@@ -1,7 +1,7 @@
 -- Weights show that no short list fits. Each combination has two weights, p and q; a box costs `whole` and what q has more than p in it. Added up over
 -- a fitting list these are sums over what the list covers, and what the room has besides weighs no less in q than in p.
 use mathlib.Core.Path.{_≡_, refl, sym, ap, _∙_}
-use mathlib.Core.Bool.{Bool, true, false, _&&_}
+use mathlib.Core.Bool.{Bool, true, false}
 use mathlib.Core.List.{List, [], _∷_}
 use Prim.Native.Nat.{ℕ, _+_, _-_, _*_, _^_, _<_, _≤_, zero-le}
 use native.Mathlib.Nat.{zero-mul, suc-mul, mul-le-mul-right}
@@ -12,11 +12,11 @@ use lib.ListN.{length, set, replicate, getD-replicate}
 use lib.Seq.{getD-set-same, getD-set-other}
 use Rattle.boxes.specs.Sums.{sum, sumOver, only}
 use Rattle.boxes.specs.Boxes.{contains}
-use Rattle.ground.proofs.Cases.{if, below-or}
-use Rattle.boxes.proofs.Sums.{sum-ext, sum-add, sum-le}
+use Rattle.ground.proofs.Cases.{if, clash, below-or}
+use Rattle.boxes.proofs.Sums.{sum-ext, sum-add, sum-le, only-and}
 use Rattle.lists.specs.Lists.{covered, Fits}
 use Rattle.lists.specs.Pottosin.{Interval, Independent}
-use Rattle.lists.proofs.Count.{clash, lines-upto}
+use Rattle.lists.proofs.Count.{lines-upto}
 use Rattle.lists.proofs.Fit.{Inside}
 use Rattle.lists.proofs.Lay.{AtLeast}
 use Rattle.lists.proofs.Pottosin.{fits-independent}
@@ -90,10 +90,6 @@ pub weight-out : (c : ℕ) (p : ℕ → Bool) (f : ℕ → ℕ) → p c ≡ fals
 weight-out c p f e = sum-step c (given p f) ∙ ap (λ (x : Bool). sum c (given p f) + only x (f c)) e ∙ omega arith
 
 -- ---- the table of costs
-only-and : (x y : Bool) (k : ℕ) → only (x && y) k ≡ only x (only y k)
-only-and true y k = refl
-only-and false y k = refl
-
 weight-same : (s : ℕ) (p : ℕ → Bool) (f : ℕ → ℕ) → ((c : ℕ) → has s c ≡ p c) → weight (has s) f ≡ weight p f
 weight-same s p f e = sum-ext 32 (given (has s) f) (given p f) (λ c h. ap (λ (x : Bool). only x (f c)) (e c))
 

@@ -13,9 +13,8 @@ use lib.Pow.{pow-mono}
 use lib.Seq.{take-append-le, length-take-le}
 use Rattle.boxes.specs.Sums.{sumOver}
 use Rattle.boxes.specs.Boxes.{through}
-use Rattle.ground.proofs.Cases.{below-or}
+use Rattle.ground.proofs.Cases.{clash, below-or}
 use Rattle.lists.specs.Lists.{lowestOf, FirstShortest}
-use Rattle.lists.proofs.Count.{clash}
 use Rattle.lists.proofs.Fit.{less, Inside, fits-cons}
 use Rattle.lists.proofs.Lay.{AtLeast, Tried, Longer, tried-next, longer-out, longer-deep, least-rest, laid, first-empty, some-box, tried-all}
 use Rattle.seek.specs.Answer.{has}

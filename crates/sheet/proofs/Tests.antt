@@ -1,7 +1,7 @@
 -- The order of tests of each call: what is answered where the tests before have passed, and what the answer 0 tells.
 use Prim.Native.Nat.{ℕ, suc, _+_, _*_, _-_, _^_, _<_, _≤_}
 use mathlib.Core.Path.{_≡_, refl, sym, _∙_, ap}
-use mathlib.Core.Bool.{Bool, true, false, _&&_}
+use mathlib.Core.Bool.{Bool, true, false, _&&_, and-true}
 use mathlib.Core.List.{List}
 use native.Mathlib.Nat.{pow-le-pow-right, zero-mul}
 use native.Mathlib.Omega.{arith}
@@ -9,7 +9,7 @@ use lib.Count.{ones-le}
 use lib.Dec.{eqb, leb}
 use borrow.Author.Tests.{le-leb, lt-leb, le-ltb, lt-ltb, leb-true}
 use Rattle.boxes.specs.Boxes.{contains, freeCount, freeMarks}
-use Rattle.ground.proofs.Cases.{if, below-or, leb-same, and-left, and-right, and-yes}
+use Rattle.ground.proofs.Cases.{if, below-or, leb-same, and-left, and-right}
 use Rattle.boxes.proofs.Choices.{freeMarks-lt, freeCount-ones}
 use Rattle.tables.specs.Tables.{entry, own, touched, inBounds}
 use Rattle.tables.proofs.Touched.{touched-at}
@@ -178,7 +178,7 @@ pub withdraw-bounds : (m d : ℕ) (t : List ℕ) (b : ℕ) → entry t b < 2 ^ 3
 unfolding fitsLess
 withdraw-bounds m d t b l =
     let x = entry t b in
-    rw (lt-ltb x (4294967296 + 0 * 2 ^ freeCount m b) (omega (arith, zero-mul (2 ^ freeCount m b)))) (and-yes (leb d x))
+    rw (lt-ltb x (4294967296 + 0 * 2 ^ freeCount m b) (omega (arith, zero-mul (2 ^ freeCount m b)))) (and-true (leb d x))
 
 -- what the touched entries then are
 

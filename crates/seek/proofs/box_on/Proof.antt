@@ -4,7 +4,7 @@ use Prim.Native.Nat.{ℕ, _+_, _<_, _≤_, _^_}
 use native.Mathlib.Omega.{arith}
 use lib.Bits.{bitOr, or-lt}
 use lib.Pow.{pow-mono}
-use Rattle.boxes.specs.Boxes.{through, single}
+use Rattle.boxes.specs.Boxes.{through}
 use Rattle.boxes.proofs.Choices.{through-lt, through-or}
 use Rattle.seek.proofs.Computed.{three-le}
 use Rattle.seek.proofs.box_on.Statement.{statement}
