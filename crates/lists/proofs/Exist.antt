@@ -12,9 +12,8 @@ use borrow.Author.Tests.{eq-eqb, ne-eqb, eqb-true, lt-ltb, le-ltb}
 use Rattle.boxes.specs.Boxes.{agrees, contains, through, single}
 use Rattle.ground.proofs.Cases.{if, clash, below-or, same-or, and-left, and-right}
 use Rattle.boxes.proofs.Choices.{through-lt, single-contains}
-use Rattle.lists.specs.Lists.{Fits, FirstShortest}
+use Rattle.lists.specs.Lists.{Fits, FirstShortest, Small}
 use Rattle.lists.proofs.Fit.{less, fits-cons, fits-none, fits-room, fits-small}
-use Rattle.lists.proofs.Lay.{Small}
 
 -- the box of c with mark 0 free contains the combinations that agree with c in the other marks
 pair-contains : (m c d : ℕ) → contains (suc m) (through (suc m) c 1) d ≡ contains m (single m (c / 2)) (d / 2)

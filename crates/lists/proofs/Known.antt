@@ -8,9 +8,8 @@ use lib.Dec.{eqb, ltb}
 use borrow.Author.Tests.{eqb-true, ltb-true}
 use Rattle.boxes.specs.Boxes.{agrees, contains, through}
 use Rattle.ground.proofs.Cases.{if, and-left, and-right}
-use Rattle.lists.specs.Lists.{firstFrom, FirstShortest}
+use Rattle.lists.specs.Lists.{firstFrom, FirstShortest, Small}
 use Rattle.lists.specs.Known.{among, Example, table, Shown}
-use Rattle.lists.proofs.Lay.{Small}
 use Rattle.lists.proofs.Model.{laying, trying, seeking, fewest, found}
 
 -- each is below n

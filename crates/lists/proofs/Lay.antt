@@ -11,17 +11,9 @@ use lib.ListN.{length}
 use Rattle.boxes.specs.Boxes.{contains, through, freeMarks}
 use Rattle.ground.proofs.Cases.{below-or}
 use Rattle.boxes.proofs.Choices.{through-lt, through-rises, through-contains, through-free, freeMarks-lt}
-use Rattle.lists.specs.Lists.{covered, Fits, lowestOf, Rising, Smaller, Before, FirstShortest}
+use Rattle.lists.specs.Lists.{covered, Fits, lowestOf, Rising, Smaller, Before, FirstShortest, AtLeast, Small}
 use Rattle.lists.proofs.Fit.{less, Inside, lowest-true, lowest-le, fits-tail, fits-cons, fits-head, fits-none, fronted}
 use Rattle.lists.proofs.Order.{away-rest, rising-tail, rising-cons, head-has}
-
--- no fitting list has fewer than n boxes
-abbrev pub AtLeast : ℕ → (ℕ → Bool) → (ℕ → Bool) → ℕ → Type 0
-AtLeast m need room n = (l : List ℕ) → Fits m need room l → n ≤ length l
-
--- combinations of a set are below 2 ^ m
-abbrev pub Small : ℕ → (ℕ → Bool) → Type 0
-Small m need = (c : ℕ) → need c ≡ true → c < 2 ^ m
 
 module _ (m : ℕ) (need room : ℕ → Bool) where
   pub none-needed : Small m need → 2 ^ m ≤ lowestOf m need → (c : ℕ) → need c ≡ true → ⊥

@@ -11,10 +11,9 @@ use borrow.Author.Tests.{eqb-true}
 use Rattle.boxes.specs.Boxes.{contains, lowest, single}
 use Rattle.ground.proofs.Cases.{if, clash}
 use Rattle.boxes.proofs.Choices.{through-lt, through-contains, single-contains, lowest-contained}
-use Rattle.lists.specs.Lists.{Boxes, covered, Apart, Fits, FirstShortest}
+use Rattle.lists.specs.Lists.{Boxes, covered, Apart, Fits, FirstShortest, Small, AtLeast}
 use Rattle.lists.specs.Pottosin.{Independent, Maximal, SmallestMaximal}
 use Rattle.lists.proofs.Count.{covered-in, covered-out}
-use Rattle.lists.proofs.Lay.{Small, AtLeast}
 
 module _ (m : ℕ) where
   -- a combination is covered exactly if a member contains it

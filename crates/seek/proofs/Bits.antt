@@ -13,9 +13,8 @@ use lib.Pow.{shr-shr}
 use borrow.Author.Tests.{eqb-true, eqb-false, eq-eqb, ne-eqb}
 use Rattle.boxes.specs.Boxes.{contains}
 use Rattle.ground.proofs.Cases.{if, clash, below-or, mark, and-right}
-use Rattle.lists.specs.Lists.{lowestOf}
+use Rattle.lists.specs.Lists.{lowestOf, Small}
 use Rattle.lists.proofs.Fit.{less, Inside, lowest-is}
-use Rattle.lists.proofs.Lay.{Small}
 use Rattle.seek.specs.Answer.{has}
 
 and-bit : (x y : ℕ) → x < 2 → y < 2 → eqb (min x y) 1 ≡ (eqb x 1 && eqb y 1)

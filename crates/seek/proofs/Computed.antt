@@ -3,17 +3,18 @@ use mathlib.Core.Path.{_≡_, refl, sym, ap, _∙_}
 use mathlib.Core.Bool.{Bool, true, false, Bool·beq, _&&_, false≢true}
 use mathlib.Core.List.{List, [], _∷_}
 use Prim.Native.Nat.{ℕ, zero, suc, _+_, _^_, _<_, _≤_}
-use native.Mathlib.Nat.{pow-le-pow-right, add-zero, zero-add}
+use native.Mathlib.Nat.{add-zero, zero-add}
 use native.Mathlib.Omega.{arith}
-use lib.Dec.{eqb, ltb, lit<}
+use lib.Dec.{eqb, ltb}
 use lib.ListN.{length, getD}
 use lib.Pow.{pow-mono}
 use borrow.Author.Tests.{ltb-true, eqb-true}
 use Rattle.boxes.specs.Boxes.{agrees, contains, through, single}
 use Rattle.ground.proofs.Cases.{if, below-or, and-left, and-right}
 use Rattle.boxes.proofs.Boxes.{contains-combination}
+use Rattle.boxes.proofs.Numbers.{boxes-mono}
 use Rattle.boxes.proofs.Choices.{contains-wide, through-wide}
-use Rattle.seek.specs.Answer.{has}
+use Rattle.seek.specs.Answer.{setMarks, has}
 use Rattle.seek.specs.Steps.{Sets, Singles}
 use Rattle.seek.proofs.Bits.{has-high}
 
@@ -43,7 +44,7 @@ singles =
     0 ∷ 1 ∷ 3 ∷ 4 ∷ 9 ∷ 10 ∷ 12 ∷ 13 ∷ 27 ∷ 28 ∷ 30 ∷ 31 ∷ 36 ∷ 37 ∷ 39 ∷ 40 ∷ 81 ∷ 82 ∷ 84 ∷ 85 ∷ 90 ∷ 91 ∷ 93 ∷ 94 ∷ 108 ∷ 109 ∷ 111 ∷
     112 ∷ 117 ∷ 118 ∷ 120 ∷ 121 ∷ []
 
--- the test passes at each entry and its place, counted from i
+-- the test passes at each valueAt and its place, counted from i
 every : (ℕ → ℕ → Bool) → ℕ → List ℕ → Bool
 every f i [] = true
 every f i (x ∷ xs) = f i x && every f (suc i) xs
@@ -73,7 +74,7 @@ below-at p (suc n) c e h = below-or c n
 
 -- ---- the sets of the boxes
 set-right : ℕ → ℕ → Bool
-set-right b s = ltb s (2 ^ 32) && allBelow (λ c. Bool·beq (has s c) (contains 5 b c)) 32
+set-right b s = ltb s (2 ^ 32) && allBelow (λ c. Bool·beq (has s c) (contains setMarks b c)) (2 ^ setMarks)
 
 sets-computed : every set-right 0 sets ≡ true
 unfolding every set-right allBelow has agrees contains
@@ -85,34 +86,31 @@ beq-same true false e = absurd (false≢true e)
 beq-same false true e = absurd (false≢true e)
 beq-same false false e = refl
 
-pub three-le : (m : ℕ) → m ≤ 5 → 3 ^ m ≤ 243
-three-le m h = pow-le-pow-right {n = 3} (lit< tt) h
-
-pub sets-hold : (m : ℕ) → m ≤ 5 → Sets m sets
+pub sets-hold : (m : ℕ) → m ≤ setMarks → Sets m sets
 unfolding set-right
 sets-hold m h b l =
-    let g = three-le m h in
+    let g = boxes-mono h in
     let s = getD sets b 0 in
     let r : set-right b s ≡ true = table-at set-right sets b sets-computed (omega arith) in
     let lt : s < 2 ^ 32 = ltb-true _ _ (and-left _ _ r) in (
       lt,
       λ c. below-or c 32
-          (λ q. beq-same _ _ (below-at (λ d. Bool·beq (has s d) (contains 5 b d)) 32 c (and-right (ltb s (2 ^ 32)) _ r) q))
-          (λ q. has-high 32 c s lt q ∙ sym (if (contains 5 b c) (λ t. absurd (omega (arith, contains-combination 5 b c t))) (λ t. t)))
-          ∙ contains-wide m 5 b c h l,
+          (λ q. beq-same _ _ (below-at (λ d. Bool·beq (has s d) (contains setMarks b d)) (2 ^ setMarks) c (and-right (ltb s (2 ^ 32)) _ r) q))
+          (λ q. has-high 32 c s lt q ∙ sym (if (contains setMarks b c) (λ t. absurd (omega (arith, contains-combination setMarks b c t))) (λ t. t)))
+          ∙ contains-wide m setMarks b c h l,
     )
 
 -- ---- the boxes of the single combinations
 single-right : ℕ → ℕ → Bool
-single-right c x = eqb x (single 5 c)
+single-right c x = eqb x (single setMarks c)
 
 singles-computed : every single-right 0 singles ≡ true
 unfolding every single-right through
 singles-computed = refl
 
-pub singles-hold : (m : ℕ) → m ≤ 5 → Singles m singles
+pub singles-hold : (m : ℕ) → m ≤ setMarks → Singles m singles
 unfolding single-right
 singles-hold m h c l =
-    let p : 2 ^ m ≤ 2 ^ 5 = pow-mono h in
-    eqb-true (getD singles c 0) (single 5 c) (table-at single-right singles c singles-computed (omega arith))
-    ∙ through-wide m 5 c 0 h l (omega arith)
+    let p : 2 ^ m ≤ 2 ^ setMarks = pow-mono h in
+    eqb-true (getD singles c 0) (single setMarks c) (table-at single-right singles c singles-computed (omega arith))
+    ∙ through-wide m setMarks c 0 h l (omega arith)

@@ -7,10 +7,9 @@ use Prim.Native.Nat.{ℕ, _^_, _<_}
 use native.Mathlib.Omega.{arith}
 use lib.ListN.{length, take}
 use lib.Seq.{length-take-le}
-use Rattle.lists.specs.Lists.{Fits}
+use Rattle.lists.specs.Lists.{Fits, AtLeast, Small}
 use Rattle.lists.proofs.Fit.{fits-small}
 use Rattle.lists.proofs.First.{unique}
-use Rattle.lists.proofs.Lay.{AtLeast, Small}
 use Rattle.lists.proofs.Exist.{exists}
 use Rattle.seek.specs.declared.Found.{Found}
 use Rattle.seek.specs.declared.Found.the-variants.{Boxes, Nothing}

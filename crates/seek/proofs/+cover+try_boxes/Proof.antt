@@ -68,9 +68,7 @@ cover-try-boxes-requires t c κs =
       omega (arith, s .pre .0, more),
       (
         one-more (s .pre .1 .0) more,
-        omega (arith, s .pre .1 .1, more),
-        left-lowest (s .pre .1 .0) some,
-        left-lt (s .pre .1 .0) some,
+        (omega (arith, s .pre .1 .1, more), left-lowest (s .pre .1 .0) some, left-lt (s .pre .1 .0) some),
       ),
     )
 
@@ -91,7 +89,7 @@ abbrev μ-loop : try-boxes-lts.MeasureT-loop
 μ-loop m sets singles costs c need room left spare area₀ n t₀ area t = n - t
 
 try-boxes-power2-requires : (t : ℕ) → try-boxes-lts.Need-power2-requires (calls t) (try-boxes-at t) try-boxes.Post Inv-loop μ-loop
-try-boxes-power2-requires t c κs = let s = c .before in omega (arith, s .pre .1 .0 .marks)
+try-boxes-power2-requires t c κs = let s = c .before in omega (arith, s .pre .1 .0 .stage .marks)
 
 try-boxes-loop-holds : (t : ℕ) → try-boxes-lts.Need-loop-holds (calls t) (try-boxes-at t) try-boxes.Post Inv-loop μ-loop
 try-boxes-loop-holds t c =
@@ -101,7 +99,7 @@ try-boxes-loop-holds t c =
 try-boxes-box-on-requires : (t : ℕ) → try-boxes-lts.Need-box-on-requires (calls t) (try-boxes-at t) try-boxes.Post Inv-loop μ-loop
 try-boxes-box-on-requires t c κs =
     let s = c .before .before .before .before in
-    (s .pre .1 .0 .marks, s .pre .1 .3, omega (arith, c .loop-test .taken, c .before .loop .inv .2), s .pre .1 .0 .of-singles)
+    (s .pre .1 .0 .stage .marks, s .pre .1 .0 .stage .of-singles, s .pre .1 .1 .2, omega (arith, c .loop-test .taken, c .before .loop .inv .2))
 
 try-boxes-mul-s : (t : ℕ) → try-boxes-lts.Need-mul-s (calls t) (try-boxes-at t) try-boxes.Post Inv-loop μ-loop
 try-boxes-mul-s t c = omega arith
@@ -121,14 +119,14 @@ try-boxes-cast-area t c = search needs
 try-boxes-slice-write-area : (t : ℕ) → try-boxes-lts.Need-slice-write-area (calls t) (try-boxes-at t) try-boxes.Post Inv-loop μ-loop
 try-boxes-slice-write-area t c = search needs
 
-try-boxes-sub-cover : (t : ℕ) → try-boxes-lts.Need-sub-cover (calls t) (try-boxes-at t) try-boxes.Post Inv-loop μ-loop
-try-boxes-sub-cover t c = simp length-set (omega arith)
+try-boxes-sub-behind : (t : ℕ) → try-boxes-lts.Need-sub-behind (calls t) (try-boxes-at t) try-boxes.Post Inv-loop μ-loop
+try-boxes-sub-behind t c = simp length-set (omega arith)
 
-try-boxes-part-cover-start : (t : ℕ) → try-boxes-lts.Need-part-cover-start (calls t) (try-boxes-at t) try-boxes.Post Inv-loop μ-loop
-try-boxes-part-cover-start t c = simp length-set (omega arith)
+try-boxes-part-behind-start : (t : ℕ) → try-boxes-lts.Need-part-behind-start (calls t) (try-boxes-at t) try-boxes.Post Inv-loop μ-loop
+try-boxes-part-behind-start t c = simp length-set (omega arith)
 
-try-boxes-part-cover-end : (t : ℕ) → try-boxes-lts.Need-part-cover-end (calls t) (try-boxes-at t) try-boxes.Post Inv-loop μ-loop
-try-boxes-part-cover-end t c = search needs
+try-boxes-part-behind-end : (t : ℕ) → try-boxes-lts.Need-part-behind-end (calls t) (try-boxes-at t) try-boxes.Post Inv-loop μ-loop
+try-boxes-part-behind-end t c = search needs
 
 try-boxes-cover-requires : (t : ℕ) → try-boxes-lts.Need-cover-requires (calls t) (try-boxes-at t) try-boxes.Post Inv-loop μ-loop
 try-boxes-cover-requires t c κs =
@@ -138,7 +136,7 @@ try-boxes-cover-requires t c κs =
       omega (arith, s .pre .0),
       (
         deeper (s .args .left) (s .pre .1 .0) (s .fits .room .fits) (s .args .c) (l .t) (y .result) (y .ensures .1) (y .ensures .0) (c .before .before .before .if1 .taken) (omega (arith, c .before .if2 .taken)),
-        simp (length-take, length-drop, length-set) (omega (arith, s .pre .1 .1, l .inv .0)),
+        simp (length-take, length-drop, length-set) (omega (arith, s .pre .1 .1 .0, l .inv .0)),
       ),
     )
 
@@ -151,9 +149,9 @@ try-boxes-returns t c =
     let l = c .before .before .before .before .before .before .before .before .before .before .before .loop in
     let y = c .before .before .before .before .before .before .before .before .before .box-on in
     let q = c .before .before .before .cover in
-    turn-hit (s .args .left) (s .pre .1 .0) (s .fits .room .fits) (s .args .c) (l .t) (y .result) (y .ensures .1) (y .ensures .0) (c .before .before .before .before .before .before .before .if1 .taken) (s .pre .1 .2) (s .pre .1 .3) (l .inv .4) (l .area) _ _
-    (omega (arith, s .pre .1 .1, l .inv .0))
-    (omega (arith, simp (length-take, length-drop, length-set) at (q .kept .1 .1 .1 .1 .1 .1 .1 .1 .0), s .pre .1 .1, l .inv .0))
+    turn-hit (s .args .left) (s .pre .1 .0) (s .fits .room .fits) (s .args .c) (l .t) (y .result) (y .ensures .1) (y .ensures .0) (c .before .before .before .before .before .before .before .if1 .taken) (s .pre .1 .1 .1) (s .pre .1 .1 .2) (l .inv .4) (l .area) _ _
+    (omega (arith, s .pre .1 .1 .0, l .inv .0))
+    (omega (arith, simp (length-take, length-drop, length-set) at (q .kept .1 .1 .1 .1 .1 .1 .1 .1 .0), s .pre .1 .1 .0, l .inv .0))
     (reached-yes _ _ _ _ _ (q .result) (c .if3 .taken) (q .ensures))
 
 try-boxes-add-t : (t : ℕ) → try-boxes-lts.Need-add-t (calls t) (try-boxes-at t) try-boxes.Post Inv-loop μ-loop
@@ -190,9 +188,9 @@ try-boxes-returns-2 : (t : ℕ) → try-boxes-lts.Need-returns-2 (calls t) (try-
 try-boxes-returns-2 t c =
     let s = c .before .before .before .before in
     let l = c .before .loop in
-    turns-end (s .args .left) (s .pre .1 .0) (s .args .c) (l .t) (s .pre .1 .2) (s .pre .1 .3) (omega (arith, c .loop-test .left, l .inv .2)) (l .inv .4)
+    turns-end (s .args .left) (s .pre .1 .0) (s .args .c) (l .t) (s .pre .1 .1 .1) (s .pre .1 .1 .2) (omega (arith, c .loop-test .left, l .inv .2)) (l .inv .4)
 
 pub +cover+try-boxes-spec : {M : Type 1} → statement M
 +cover+try-boxes-spec = close μ-cover μ-try-boxes
     (λ t. cover-lts.spec (cover-calls t) (cover-at t) cover.Post (cover-returns t) (cover-returns-2 t) (cover-cast-c t) (cover-sub-try-boxes t) (cover-try-boxes-requires t) (cover-same-length t) (cover-returns-3 t))
-    λ t. try-boxes-lts.spec (calls t) (try-boxes-at t) try-boxes.Post Inv-loop μ-loop (try-boxes-power2-requires t) (try-boxes-loop-holds t) (try-boxes-box-on-requires t) (try-boxes-mul-s t) (try-boxes-element-copy-out-s t) (try-boxes-mul-k t) (try-boxes-element-copy-out-k t) (try-boxes-cast-area t) (try-boxes-slice-write-area t) (try-boxes-sub-cover t) (try-boxes-part-cover-start t) (try-boxes-part-cover-end t) (try-boxes-cover-requires t) (try-boxes-same-length t) (try-boxes-returns t) (try-boxes-add-t t) (try-boxes-loop-less t) (try-boxes-loop-again t) (try-boxes-same-length-2 t) (try-boxes-returns-2 t)
+    λ t. try-boxes-lts.spec (calls t) (try-boxes-at t) try-boxes.Post Inv-loop μ-loop (try-boxes-power2-requires t) (try-boxes-loop-holds t) (try-boxes-box-on-requires t) (try-boxes-mul-s t) (try-boxes-element-copy-out-s t) (try-boxes-mul-k t) (try-boxes-element-copy-out-k t) (try-boxes-cast-area t) (try-boxes-slice-write-area t) (try-boxes-sub-behind t) (try-boxes-part-behind-start t) (try-boxes-part-behind-end t) (try-boxes-cover-requires t) (try-boxes-same-length t) (try-boxes-returns t) (try-boxes-add-t t) (try-boxes-loop-less t) (try-boxes-loop-again t) (try-boxes-same-length-2 t) (try-boxes-returns-2 t)

@@ -7,20 +7,20 @@ use borrow.Author.Needs.{needs}
 use borrow.Author.Tests.{eq-eqb, ne-eqb}
 use Rattle.boxes.specs.Sums.{sum}
 use Rattle.seek.specs.Answer.{has}
-use Rattle.seek.specs.Steps.{entry}
+use Rattle.seek.specs.Steps.{valueAt}
 use Rattle.seek.proofs.Bits.{has-shr}
 use Rattle.seek.proofs.Cost.{given, weight-none, weight-in, weight-out}
 use Rattle.seek.proofs.weight_of.Statement.{statement}
 use Rattle.seek.proofs.weight_of.Tie as tie
 
 abbrev Inv-loop : tie.InvT-loop
-Inv-loop s w total₀ c₀ total c = (c ≤ 32) × (total ≡ sum c (given (has s) (entry w))) × (total ≤ c * 4294967295)
+Inv-loop s w total₀ c₀ total c = (c ≤ 32) × (total ≡ sum c (given (has s) (valueAt w))) × (total ≤ c * 4294967295)
 
 abbrev μ-loop : tie.MeasureT-loop
 μ-loop s w total₀ c₀ total c = 32 - c
 
 loop-holds : tie.Need-loop-holds Inv-loop μ-loop
-loop-holds c = (zero-le, weight-none (given (has (c .args .s)) (entry (c .args .w .now))), zero-le)
+loop-holds c = (zero-le, weight-none (given (has (c .args .s)) (valueAt (c .args .w .now))), zero-le)
 
 cast-if1 : tie.Need-cast-if1 Inv-loop μ-loop
 cast-if1 c = omega arith
@@ -52,7 +52,7 @@ loop-again c =
     let l = c .before .before .loop in
     let h = has-shr (l .c) (s .s) in (
       omega (arith, c .before .loop-test .taken),
-      ⊎-elim (λ w. omega (arith, w .3, w .2 .ensures .0, l .inv .1, weight-in (l .c) (has (s .s)) (entry (s .w .now)) (h ∙ eq-eqb _ _ (w .0 .taken)))) (λ w. w .1 ∙ l .inv .1 ∙ sym (weight-out (l .c) (has (s .s)) (entry (s .w .now)) (h ∙ ne-eqb _ _ (w .0 .left)))) (c .if1 .came),
+      ⊎-elim (λ w. omega (arith, w .3, w .2 .ensures .0, l .inv .1, weight-in (l .c) (has (s .s)) (valueAt (s .w .now)) (h ∙ eq-eqb _ _ (w .0 .taken)))) (λ w. w .1 ∙ l .inv .1 ∙ sym (weight-out (l .c) (has (s .s)) (valueAt (s .w .now)) (h ∙ ne-eqb _ _ (w .0 .left)))) (c .if1 .came),
       ⊎-elim (λ w. omega (arith, w .3, w .2 .ensures .1, l .inv .2)) (λ w. omega (arith, w .1, l .inv .2)) (c .if1 .came),
     )
 
@@ -61,7 +61,7 @@ returns c =
     let l = c .before .loop in
     let s = c .before .before .args in
     let e : l .c ≡ 32 = omega (arith, l .inv .0, c .loop-test .left) in
-    (l .inv .1 ∙ ap (λ (n : ℕ). sum n (given (has (s .s)) (entry (s .w .now)))) e, omega (arith, l .inv .2, e))
+    (l .inv .1 ∙ ap (λ (n : ℕ). sum n (given (has (s .s)) (valueAt (s .w .now)))) e, omega (arith, l .inv .2, e))
 
 pub weight-of-spec : {M : Type 1} → statement M
 weight-of-spec =
