@@ -10,6 +10,7 @@ unfoldable pub among : List ℕ → ℕ → Bool
 among [] c = false
 among (x ∷ l) c = eqb c x || among l c
 
+-- a class over m marks, and its list
 pub record Example : Type 0 where
   pub m : ℕ
   pub class : List ℕ

@@ -3,8 +3,8 @@ use native.Mathlib.Omega.{arith}
 use Prim.Native.Nat.{_≤_, _-_}
 use lib.ListN.{length, getD, take}
 use borrow.Author.Tests.{not-true, not-false}
+use Rattle.ground.proofs.Cases.{denied}
 use Rattle.times.specs.Parts.{Follows}
-use Rattle.times.proofs.Places.{tests-yes, tests-no}
 use Rattle.times.proofs.Fronts.{SoFar, far-none, far-step, stop-at, colon-at, end-at}
 use Rattle.times.proofs.before_colon.Statement.{statement}
 use Rattle.times.proofs.before_colon.Tie as tie
@@ -17,7 +17,7 @@ abbrev μ-loop : tie.MeasureT-loop
 
 next-digit : (c : tie.Else3 Inv-loop μ-loop)
     → Follows (c .before .before .before .before .before .loop .i) (c .before .before .before .before .before .loop .n) (getD (c .before .before .before .before .before .before .before .args .text .now) (c .before .before .before .before .before .loop .i) 0)
-next-digit c = tests-yes (c .before .follows .ensures) (not-false _ (c .if3 .left))
+next-digit c = c .before .follows .ensures .yes (not-false _ (c .if3 .left))
 
 loop-holds : tie.Need-loop-holds Inv-loop μ-loop
 loop-holds c = (omega arith, far-none)
@@ -38,7 +38,7 @@ follows-requires : tie.Need-follows-requires Inv-loop μ-loop
 follows-requires c κs = c .before .before .before .loop .inv .1 .small
 
 returns-3 : tie.Need-returns-3 Inv-loop μ-loop
-returns-3 c = let l = c .before .before .before .before .before .loop in stop-at _ (l .i) (l .n) (l .inv .1) (omega arith) (λ q h. c .before .before .if1 .left q) (tests-no (c .before .follows .ensures) (not-true _ (c .if3 .taken)))
+returns-3 c = let l = c .before .before .before .before .before .loop in stop-at _ (l .i) (l .n) (l .inv .1) (omega arith) (λ q h. c .before .before .if1 .left q) (denied (c .before .follows .ensures) (not-true _ (c .if3 .taken)))
 
 grown-requires : tie.Need-grown-requires Inv-loop μ-loop
 grown-requires c κs = let d = next-digit c .digit in (c .before .before .before .before .before .loop .inv .1 .small, d .0, d .1)

@@ -5,23 +5,24 @@ use Prim.Native.Nat.{_+_, _-_, _*_, _≤_}
 use mathlib.Core.Path.{_≡_}
 use lib.ListN.{getD, drop, length-drop}
 use borrow.Author.Tests.{not-true, not-false}
+use Rattle.ground.proofs.Cases.{denied}
 use Rattle.times.specs.Texts.{After}
-use Rattle.times.specs.Places.{Reads}
-use Rattle.times.proofs.Places.{tests-yes, tests-no, place-le, lent-part}
+use Rattle.times.specs.Places.{ReadsAs}
+use Rattle.times.proofs.Places.{place-le, lent-part}
 use Rattle.times.proofs.Behinds.{behind-none, behind-tens, behind-one, behind-ones, behind-two}
 use Rattle.times.proofs.behind_colon.Statement.{statement}
 use Rattle.times.proofs.behind_colon.Tie as tie
 
 tens : (c : tie.Else2) → (48 ≤ getD (c .before .before .before .before .before .args .part .now) 0 0) × (getD (c .before .before .before .before .before .args .part .now) 0 0 ≤ 53)
-tens c = tests-yes (c .before .digit .ensures) (not-false _ (c .if2 .left))
+tens c = c .before .digit .ensures .yes (not-false _ (c .if2 .left))
 
 ones : (c : tie.Else4) → (48 ≤ getD (c .before .before .before .before .before .before .before .before .before .args .part .now) 1 0) × (getD (c .before .before .before .before .before .before .before .before .before .args .part .now) 1 0 ≤ 57)
-ones c = tests-yes (c .before .digit2 .ensures) (not-false _ (c .if4 .left))
+ones c = c .before .digit2 .ensures .yes (not-false _ (c .if4 .left))
 
 number : (c : tie.After-grown2) → c .grown2 .result ≡ (getD (c .before .before .before .before .before .before .before .before .before .before .before .args .part .now) 0 0 - 48) * 10 + (getD (c .before .before .before .before .before .before .before .before .before .before .before .args .part .now) 1 0 - 48)
 number c = omega (arith, c .grown2 .ensures .0, c .before .grown .ensures .0)
 
-rest : (c : tie.After-after) → Reads (After (c .before .before .before .before .before .before .before .before .before .before .before .before .before .args .n) (c .before .before .grown2 .result)) (drop 2 (c .before .before .before .before .before .before .before .before .before .before .before .before .before .args .part .now)) (c .after .result)
+rest : (c : tie.After-after) → ReadsAs (After (c .before .before .before .before .before .before .before .before .before .before .before .before .before .args .n) (c .before .before .grown2 .result)) (drop 2 (c .before .before .before .before .before .before .before .before .before .before .before .before .before .args .part .now)) (c .after .result)
 rest c = lent-part _ (c .before .before .before .before .before .before .before .before .before .before .before .before .before .args .part .now) 2 (c .after .ensures)
 
 returns : tie.Need-returns
@@ -34,7 +35,7 @@ digit-requires : tie.Need-digit-requires
 digit-requires c κs = search needs
 
 returns-2 : tie.Need-returns-2
-returns-2 c = behind-tens _ _ (omega arith) (tests-no (c .before .digit .ensures) (not-true _ (c .if2 .taken)))
+returns-2 c = behind-tens _ _ (omega arith) (denied (c .before .digit .ensures) (not-true _ (c .if2 .taken)))
 
 returns-3 : tie.Need-returns-3
 returns-3 c = behind-one _ _ (c .if3 .taken) (tens (c .before))
@@ -46,7 +47,7 @@ digit-requires-2 : tie.Need-digit-requires-2
 digit-requires-2 c κs = search needs
 
 returns-4 : tie.Need-returns-4
-returns-4 c = behind-ones _ _ (omega arith) (tens (c .before .before .before .before)) (tests-no (c .before .digit2 .ensures) (not-true _ (c .if4 .taken)))
+returns-4 c = behind-ones _ _ (omega arith) (tens (c .before .before .before .before)) (denied (c .before .digit2 .ensures) (not-true _ (c .if4 .taken)))
 
 grown-requires : tie.Need-grown-requires
 grown-requires c κs = omega (arith, tens (c .before .before .before .before))

@@ -6,7 +6,7 @@ use lib.ListN.{drop, length-drop}
 use Rattle.times.specs.declared.Lead.{Lead}
 use Rattle.times.specs.declared.Lead.the-variants.{Colon}
 use Rattle.times.specs.Texts.{Behind}
-use Rattle.times.specs.Places.{Reads}
+use Rattle.times.specs.Places.{ReadsAs}
 use Rattle.times.specs.Parts.{Led}
 use Rattle.times.proofs.Places.{place-le, lent-part}
 use Rattle.times.proofs.Fronts.{led-stop, led-small, led-on}
@@ -17,7 +17,7 @@ led : (c : tie.After-lead2) → Led (c .before .before .before .before .args .te
 led c = subst (λ (r : Lead). Led (c .before .before .before .before .args .text .now) r) (c .lead2 .given .1) (c .before .before .before-colon .ensures)
 
 rest : (c : tie.After-behind-colon)
-    → Reads (Behind (c .before .before .before .lead2 .given .0 .0)) (drop (c .before .before .before .lead2 .given .0 .1 .0) (c .before .before .before .before .before .before .before .args .text .now)) (c .behind-colon .result)
+    → ReadsAs (Behind (c .before .before .before .lead2 .given .0 .0)) (drop (c .before .before .before .lead2 .given .0 .1 .0) (c .before .before .before .before .before .before .before .args .text .now)) (c .behind-colon .result)
 rest c = lent-part _ (c .before .before .before .before .before .before .before .args .text .now) (c .before .before .before .lead2 .given .0 .1 .0) (c .behind-colon .ensures)
 
 before-colon-requires : tie.Need-before-colon-requires
