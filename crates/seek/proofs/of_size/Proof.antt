@@ -5,12 +5,6 @@ use Rattle.seek.proofs.Cost.{too-few, to-spare}
 use Rattle.seek.proofs.of_size.Statement.{statement}
 use Rattle.seek.proofs.of_size.Tie as tie
 
-mul-all : tie.Need-mul-all
-mul-all c = search needs
-
-add-all : tie.Need-add-all
-add-all c = search needs
-
 returns : tie.Need-returns
 returns c =
     let s = c .before .before in
@@ -26,11 +20,6 @@ cover-requires c κs =
       s .pre .1 .1 .1,
     )
 
-same-length : tie.Need-same-length
-same-length c = search needs
-
-returns-2 : tie.Need-returns-2
-returns-2 c = search needs
-
 pub of-size-spec : {M : Type 1} → statement M
-of-size-spec = tie.close (tie.spec mul-all add-all returns cover-requires same-length returns-2)
+of-size-spec = tie.close (tie.spec
+    (λ c. search needs) (λ c. search needs) returns cover-requires (λ c. search needs) (λ c. search needs))

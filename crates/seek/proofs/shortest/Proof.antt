@@ -61,12 +61,6 @@ returns c =
       reached-yes _ _ _ _ _ (q .result) (c .if1 .taken) (q .ensures),
     )
 
-add-k : tie.Need-add-k Inv-loop μ-loop
-add-k c = omega arith
-
-loop-less : tie.Need-loop-less Inv-loop μ-loop
-loop-less c = omega arith
-
 loop-again : tie.Need-loop-again Inv-loop μ-loop
 loop-again c =
     let l = c .before .before .before .before .before .before .before .before .before .loop in
@@ -79,9 +73,6 @@ loop-again c =
       reached-no _ _ _ _ _ (q .result) (c .if1 .left) (q .ensures),
     )
 
-same-length-2 : tie.Need-same-length-2 Inv-loop μ-loop
-same-length-2 c = search needs
-
 returns-2 : tie.Need-returns-2 Inv-loop μ-loop
 returns-2 c =
     let s = c .before .before .before .before .before .before .before .before in
@@ -90,19 +81,6 @@ returns-2 c =
     (omega (arith, c .loop-test .left, l .inv .2))
 
 pub shortest-spec : {M : Type 1} → statement M
-shortest-spec =
-    tie.close
-    (tie.spec
-    Inv-loop
-    μ-loop
-    weighed-requires
-    power2-requires
-    loop-holds
-    of-size-requires
-    same-length
-    returns
-    add-k
-    loop-less
-    loop-again
-    same-length-2
-    returns-2)
+shortest-spec = tie.close (tie.spec
+    Inv-loop μ-loop weighed-requires power2-requires loop-holds of-size-requires same-length returns
+    (λ c. omega arith) (λ c. omega arith) loop-again (λ c. search needs) returns-2)

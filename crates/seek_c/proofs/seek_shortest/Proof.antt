@@ -8,15 +8,6 @@ use Rattle.seek_c.proofs.Askable.{askable, shifted-in, told-boxes, told
 use Rattle.seek_c.proofs.seek_shortest.Statement.{statement}
 use Rattle.seek_c.proofs.seek_shortest.Tie as tie
 
-returns : tie.Need-returns
-returns c = search needs
-
-power2-requires : tie.Need-power2-requires
-power2-requires c κs = search needs
-
-returns-2 : tie.Need-returns-2
-returns-2 c = search needs
-
 shr-if3 : tie.Need-shr-if3
 shr-if3 c =
     omega (arith, c .before .power2 .ensures .0, pow-mono (c .before .before .if1 .left))
@@ -39,28 +30,16 @@ may c =
 shortest-requires : tie.Need-shortest-requires
 shortest-requires c κs = may (c .before)
 
-enum-known-k : tie.Need-enum-known-k
-enum-known-k c = search needs
-
 add-result : tie.Need-add-result
 add-result c =
     let q = c .before .before .before .before .before .shortest in
     omega (arith, count-le _ _ _ _ (q .result) (c .before .k .given .0 .0) (q .ensures) (c .before .k .given .1), q .kept .1 .1 .1 .0)
-
-enum-told : tie.Need-enum-told
-enum-told c = search needs
-
-same-length : tie.Need-same-length
-same-length c = search needs
 
 returns-4 : tie.Need-returns-4
 returns-4 c =
     let s = c .before .before .before .before .before .before .before .before .before .before .before .before in
     let q = c .before .before .before .before .before .shortest in
     told-boxes (s .args .marks) (s .args .need) (s .args .room) (s .args .area .now) _ (may (c .before .before .before .before .before .before .before)) (q .result) (q .ensures) (c .before .k .given .0 .0) (c .before .k .given .1)
-
-same-length-2 : tie.Need-same-length-2
-same-length-2 c = search needs
 
 returns-5 : tie.Need-returns-5
 returns-5 c =
@@ -69,19 +48,6 @@ returns-5 c =
     told-nothing (s .args .marks) (s .args .need) (s .args .room) (s .args .area .now) _ (may (c .before .before .before .before .before .before)) (q .result) (q .ensures) (c .enum-told .given .1)
 
 pub seek-shortest-spec : {M : Type 1} → statement M
-seek-shortest-spec =
-    tie.close
-    (tie.spec
-    returns
-    power2-requires
-    returns-2
-    shr-if3
-    returns-3
-    shortest-requires
-    enum-known-k
-    add-result
-    enum-told
-    same-length
-    returns-4
-    same-length-2
-    returns-5)
+seek-shortest-spec = tie.close (tie.spec
+    (λ c. search needs) (λ c κs. search needs) (λ c. search needs) shr-if3 returns-3 shortest-requires
+    (λ c. search needs) add-result (λ c. search needs) (λ c. search needs) returns-4 (λ c. search needs) returns-5)
