@@ -114,8 +114,8 @@ module _ (m : ℕ) (need room : ℕ → Bool) where
               go e (inl p) = inl p
               go e (inr p) = inr (inr (omega (arith, size, e), p))
 
-          pub laid : FirstShortest m need room (through m c t ∷ l)
-          laid = record {
+          pub laid-shortest : FirstShortest m need room (through m c t ∷ l)
+          laid-shortest = record {
             fits = laid-fits;
             rising = rising-cons m need (through m c t) some-need (ap (contains m (through m c t)) lowest ∙ through-contains m c t small) l (away-rest m laid-fits) (rest .rising);
             shortest = λ k f. omega (arith, least k f, size);

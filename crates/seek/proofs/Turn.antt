@@ -16,7 +16,7 @@ use Rattle.boxes.specs.Boxes.{through}
 use Rattle.ground.proofs.Cases.{clash, below-or}
 use Rattle.lists.specs.Lists.{lowestOf, FirstShortest, AtLeast}
 use Rattle.lists.proofs.Fit.{less, Inside, fits-cons}
-use Rattle.lists.proofs.Lay.{Tried, Longer, tried-next, longer-out, longer-deep, least-rest, laid, first-empty, some-box, tried-all}
+use Rattle.lists.proofs.Lay.{Tried, Longer, tried-next, longer-out, longer-deep, least-rest, laid-shortest, first-empty, some-box, tried-all}
 use Rattle.seek.specs.Answer.{setMarks, has}
 use Rattle.seek.specs.Steps.{valueAt, Reached, Node}
 use Rattle.seek.proofs.Bits.{has-zero, has-less, inside-yes, inside-no, zeros-needed, zeros-lowest, zeros-lt}
@@ -118,7 +118,7 @@ module _ {m need room spare : ℕ} {sets singles costs : List ℕ} (left : ℕ) 
     turn-hit lowest small tried xs ys zs hx hy f =
         let g : FirstShortest m (less m (has need) b) (less m (has room) b) (take left ys) = rw (rest-need, rest-room) at f in
         rw (put-front xs ys zs b left hx hy, is)
-        (laid m (has need) (has room) left (n .stage .least) c lowest small t tried (take left ys)
+        (laid-shortest m (has need) (has room) left (n .stage .least) c lowest small t tried (take left ys)
         (subst (λ (x : ℕ). Inside m x (has room)) is in-room)
         (subst (λ (x : ℕ). FirstShortest m (less m (has need) x) (less m (has room) x) (take left ys)) is g)
         (length-take-le left ys hy))

@@ -100,9 +100,9 @@ numeral-more b n c u d h =
     }
 
 -- how a readable text may go on behind b
-data Next (b : List ℕ) (n c : ℕ) (z : List ℕ) (v : ℕ) : Type 0 where
-  ended : c ≡ 58 → 0 < length b → Behind n z v → Next b n c z v
-  longer : Follows (length b) n c → Next b n c z v
+data GoesOn (b : List ℕ) (n c : ℕ) (z : List ℕ) (v : ℕ) : Type 0 where
+  ended : c ≡ 58 → 0 < length b → Behind n z v → GoesOn b n c z v
+  longer : Follows (length b) n c → GoesOn b n c z v
 
 pub noughts : (n : ℕ) → Behind n (48 ∷ 48 ∷ []) (n * 60 + 0)
 noughts n =
@@ -123,7 +123,7 @@ module _ (b : List ℕ) (n : ℕ) (f : SoFar b n) where
       (λ (z : 0 < n). z)
       (eq-zero-or-pos n)
 
-  next : (c : ℕ) (z : List ℕ) (v : ℕ) → Readable (b ++ c ∷ z) v → Next b n c z v
+  next : (c : ℕ) (z : List ℕ) (v : ℕ) → Readable (b ++ c ∷ z) v → GoesOn b n c z v
   unfolding digitsValue
   next c z v r =
       ⊎-elim
@@ -134,7 +134,7 @@ module _ (b : List ℕ) (n : ℕ) (f : SoFar b n) where
       (λ w. far (w .0) (w .1))
       (meet (r .first) b c (r .rest) z (r .numeral .digits) (f .digits) (sym (append-snoc (r .first) 58 (r .rest)) ∙ sym (r .text)))
     where
-      far : (more : List ℕ) → r .first ≡ b ++ c ∷ more → Next b n c z v
+      far : (more : List ℕ) → r .first ≡ b ++ c ∷ more → GoesOn b n c z v
       far more e =
           let q : r .n ≡ digitsValue (digitsValue 0 b * 10 + (c - 48)) more = sym (r .numeral .is) ∙ ap (digitsValue 0) e ∙ digitsValue-append 0 b (c ∷ more) in
           let g = digitsValue-ge (digitsValue 0 b * 10 + (c - 48)) more in
@@ -172,7 +172,7 @@ module _ (t : List ℕ) (i n : ℕ) (f : SoFar (take i t) n) where
       len : length (take i t) ≡ i
       len = length-take-le i t (omega arith)
 
-      go : (z : List ℕ) (v : ℕ) → Next (take i t) n (getD t i 0) z v → ⊥
+      go : (z : List ℕ) (v : ℕ) → GoesOn (take i t) n (getD t i 0) z v → ⊥
       go z v (ended e h q) = no-colon e (omega (arith, len))
       go z v (longer w) = no-digit (subst (λ (k : ℕ). Follows k n (getD t i 0)) len w)
 
@@ -201,7 +201,7 @@ module _ (b : List ℕ) (n : ℕ) (u : Numeral b n) (h : n ≤ 599) where
   pub from-colon : (s : List ℕ) (v : ℕ) → Readable ((b ++ 58 ∷ []) ++ s) v → Behind n s v
   from-colon s v r = go (next b n (far-of u h) 58 s v (subst (λ (x : List ℕ). Readable x v) (append-snoc b 58 s) r))
     where
-      go : Next b n 58 s v → Behind n s v
+      go : GoesOn b n 58 s v → Behind n s v
       go (ended e k q) = q
       go (longer w) = let d = w .digit in absurd (omega arith)
 
