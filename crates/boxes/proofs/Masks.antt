@@ -15,10 +15,10 @@ use Rattle.boxes.proofs.Choices.{freeMarks-lt}
 
 -- the complement of a set of marks, at k bits, mark by mark
 
-other-rest : (k t : ℕ) → t < 2 ^ suc k → ((2 ^ suc k - 1) - t) / 2 ≡ (2 ^ k - 1) - t / 2
+pub other-rest : (k t : ℕ) → t < 2 ^ suc k → ((2 ^ suc k - 1) - t) / 2 ≡ (2 ^ k - 1) - t / 2
 other-rest k t l = omega (arith, pow-suc 2 k)
 
-other-mark : (k t : ℕ) → t < 2 ^ suc k → ((2 ^ suc k - 1) - t) % 2 ≡ 1 - t % 2
+pub other-mark : (k t : ℕ) → t < 2 ^ suc k → ((2 ^ suc k - 1) - t) % 2 ≡ 1 - t % 2
 other-mark k t l = omega (arith, pow-suc 2 k)
 
 -- c & !t, mark by mark
