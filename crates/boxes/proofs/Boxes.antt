@@ -2,7 +2,7 @@
 -- the even ones and the odd ones, where its lowest digit lets them through.
 use Prim.Native.Nat.{ℕ, zero, suc, _+_, _*_, _-_, _/_, _%_, _^_, _<_, _≤_}
 use mathlib.Core.Bool.{Bool, true, false, _&&_}
-use mathlib.Core.Path.{_≡_, refl, sym, _∙_, ap}
+use mathlib.Core.Path.{_≡_, sym, _∙_, ap}
 use native.Mathlib.Nat.{pow-suc, pow-succ', one-le-pow, add-zero, div-one, div-div-eq-div-mul, div-mul-le-self, mul-le-mul-right}
 use native.Mathlib.Numerals.{add-one}
 use native.Mathlib.Omega.{arith}
@@ -11,7 +11,7 @@ use borrow.Author.Tests.{eq-eqb, eqb-true}
 use Rattle.boxes.specs.Sums.{sum, only}
 use Rattle.boxes.specs.Boxes.{agrees, contains, sumIn, freeCount, allFree}
 use Rattle.ground.proofs.Cases.{if, digit, and-left, and-right}
-use Rattle.boxes.proofs.Sums.{sum-ext, sum-zero, sum-le, sum-term, sum-change, sum-pairs, sum-mul, sum-only, only-le, only-mono, only-zero, only-plus, only-times}
+use Rattle.boxes.proofs.Sums.{sum-ext, sum-zero, sum-le, sum-term, sum-change, sum-pairs, sum-mul, sum-only, only-and, only-le, only-mono, only-plus, only-times}
 
 -- what contains something is a box, and what is contained a combination
 
@@ -39,10 +39,6 @@ contains-all (suc m) c l =
     simp (e, d) (contains-all m (c / 2) (omega (arith, pow-suc 2 m)))
 
 -- one digit of a box
-
-only-and : (a e : Bool) (x : ℕ) → only (a && e) x ≡ only a (only e x)
-only-and true e x = refl
-only-and false e x = refl
 
 contains-even : (m b c : ℕ) → contains (suc m) b (c * 2) ≡ (agrees (b % 3) 0 && contains m (b / 3) c)
 unfolding contains
@@ -73,15 +69,11 @@ sumIn-change m b f g k d l h e =
     (λ c lc n. ap (only (contains m b c)) (h c lc n))
     (only-plus (contains m b k) (f k) (g k) d e)
 
--- equal, smaller and zero quantities
+-- equal and smaller quantities
 
 pub sumIn-ext : (m b : ℕ) (f g : ℕ → ℕ) → ((c : ℕ) → c < 2 ^ m → f c ≡ g c) → sumIn m b f ≡ sumIn m b g
 unfolding sumIn
 sumIn-ext m b f g h = sum-ext (2 ^ m) _ _ (λ c l. ap (only (contains m b c)) (h c l))
-
-pub sumIn-zero : (m b : ℕ) → sumIn m b (λ c. 0) ≡ 0
-unfolding sumIn
-sumIn-zero m b = simp only-zero (sum-zero (2 ^ m))
 
 -- a number that is no box has nothing
 pub sumIn-nothing : (m b : ℕ) (f : ℕ → ℕ) → 3 ^ m ≤ b → sumIn m b f ≡ 0

@@ -3,7 +3,7 @@
 use Prim.Native.Nat.{ℕ, zero, suc, _+_, _*_, _-_, _/_, _%_, _^_, _<_, _≤_, max}
 use mathlib.Core.Bool.{Bool, true, _&&_}
 use mathlib.Core.Path.{_≡_, refl, sym, _∙_, ap, ap₂}
-use native.Mathlib.Nat.{pow-suc, one-le-pow, pow-le-pow-right, div-one, div-add-mod'}
+use native.Mathlib.Nat.{pow-suc, div-one, div-add-mod'}
 use native.Mathlib.Numerals.{add-one}
 use native.Mathlib.Decide.{le-ind}
 use native.Mathlib.Omega.{arith}
@@ -12,10 +12,11 @@ use lib.Bits.{bitOr, or-step}
 use lib.Count.{ones, ones-step}
 use lib.Pow.{pow-mono, shr-shr}
 use borrow.Author.Tests.{eq-eqb, ne-eqb, eqb-true}
-use Rattle.boxes.specs.Boxes.{agrees, contains, sumIn, freeMarks, freeCount, lowest, through, single, allFree}
+use Rattle.boxes.specs.Boxes.{agrees, contains, sumIn, freeMarks, freeCount, lowest, through, single}
 use Rattle.boxes.specs.Sums.{only}
 use Rattle.ground.proofs.Cases.{below-or, same-or, mark, digit, and-left, and-right, eqb-pair}
 use Rattle.boxes.proofs.Sums.{sum-change, sum-zero}
+use Rattle.boxes.proofs.Numbers.{boxes-mono}
 
 -- digits and the rest of a box through c
 
@@ -38,11 +39,6 @@ pub freeMarks-lt : (m b : ℕ) → freeMarks m b < 2 ^ m
 unfolding freeMarks
 freeMarks-lt zero b = lit< tt
 freeMarks-lt (suc m) b = omega (arith, pow-suc 2 m, freeMarks-lt m (b / 3))
-
-pub lowest-lt : (m b : ℕ) → lowest m b < 2 ^ m
-unfolding lowest
-lowest-lt zero b = lit< tt
-lowest-lt (suc m) b = omega (arith, pow-suc 2 m, lowest-lt m (b / 3))
 
 -- that contains c, and has the free marks t
 
@@ -100,41 +96,6 @@ through-rises (suc m) c t u h g =
     let e : t / 2 ≡ u / 2 = omega arith in
     let i : through m (c / 2) (t / 2) ≡ through m (c / 2) (u / 2) = ap (through m (c / 2)) e in
     omega arith)
-
--- so that none lies between two neighbours
-pub through-next : (m c t b : ℕ) → t + 1 < 2 ^ m → contains m b c ≡ true → through m c t < b → through m c (t + 1) ≤ b
-through-next m c t b l e h =
-    let f = freeMarks m b in
-    let lf = freeMarks-lt m b in
-    let is : through m c f ≡ b = through-free m b c e in
-    below-or t f
-    (λ q. same-or (t + 1) f
-    (λ s. let w : through m c (t + 1) ≡ through m c f = ap (through m c) s in omega arith)
-    (λ n. let w = through-rises m c (t + 1) f (omega arith) lf in omega arith))
-    (λ q. same-or f t
-    (λ s. let w : through m c f ≡ through m c t = ap (through m c) s in absurd (omega arith))
-    (λ n. let w = through-rises m c f t (omega arith) (omega arith) in absurd (omega arith)))
-
--- the first is the single box, the last the all-free box
-pub through-least : (m b c : ℕ) → contains m b c ≡ true → single m c ≤ b
-through-least m b c e =
-    let f = freeMarks m b in
-    let is : through m c f ≡ b = through-free m b c e in
-    same-or f 0
-    (λ s. let w : through m c f ≡ through m c 0 = ap (through m c) s in omega arith)
-    (λ n. let w = through-rises m c 0 f (omega arith) (freeMarks-lt m b) in omega arith)
-
-pub through-all : (m c : ℕ) → through m c (2 ^ m - 1) ≡ allFree m
-unfolding through
-through-all zero c = refl
-through-all (suc m) c =
-    let p2 = pow-suc 2 m in
-    let p3 = pow-suc 3 m in
-    let one2 : 1 ≤ 2 ^ m = one-le-pow m 2 (omega arith) in
-    let one3 : 1 ≤ 3 ^ m = one-le-pow m 3 (omega arith) in
-    let h : (2 ^ suc m - 1) / 2 ≡ 2 ^ m - 1 = omega arith in
-    let o : (2 ^ suc m - 1) % 2 ≡ 1 = omega arith in
-    rw (h, o, through-all m (c / 2)) (omega arith)
 
 -- how many marks are free
 
@@ -235,10 +196,6 @@ lowest-least (suc m) b c e =
     let d = on-digit (b % 3) (c % 2) (omega arith) (and-left _ _ e) in
     omega (arith, lowest-least m (b / 3) (c / 2) (and-right (agrees (b % 3) (c % 2)) _ e))
 
--- a box with no free mark is the box of one combination
-pub single-lowest : (m b : ℕ) → b < 3 ^ m → freeMarks m b ≡ 0 → single m (lowest m b) ≡ b
-single-lowest m b l e = ap (through m (lowest m b)) (sym e) ∙ through-free m b (lowest m b) (lowest-contained m b l)
-
 -- the number of the box through c: digit i is 1 + 1 at a mark of t, and c's own mark elsewhere
 pub through-or : (m c t : ℕ) → through m c t ≡ single m (bitOr c t) + single m t
 unfolding through
@@ -281,4 +238,4 @@ contains-up (suc m) b c l = ap (λ (t : Bool). agrees (b % 3) (c % 2) && t) (con
 pub contains-wide : (m n b c : ℕ) → m ≤ n → b < 3 ^ m → contains n b c ≡ contains m b c
 contains-wide m n b c h l =
     le-ind (λ (j : ℕ). contains j b c ≡ contains m b c) refl
-    (λ j g e. let q : 3 ^ m ≤ 3 ^ j = pow-le-pow-right {n = 3} (omega arith) g in contains-up j b c (omega arith) ∙ e) n h
+    (λ j g e. let q : 3 ^ m ≤ 3 ^ j = boxes-mono g in contains-up j b c (omega arith) ∙ e) n h

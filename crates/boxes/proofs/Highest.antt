@@ -6,7 +6,7 @@ use native.Mathlib.Nat.{pow-suc, mul-assoc, zero-mul}
 use native.Mathlib.Omega.{arith}
 use Rattle.boxes.specs.Sums.{sum, only}
 use Rattle.boxes.specs.Boxes.{agrees, contains, sumIn, through, single}
-use Rattle.boxes.proofs.Sums.{sum-ext, sum-only, sum-split}
+use Rattle.boxes.proofs.Sums.{sum-ext, sum-only, sum-split, only-and}
 
 and-swap : (a x y : Bool) → (a && (x && y)) ≡ (x && (a && y))
 and-swap true true y = refl
@@ -35,10 +35,6 @@ contains-top (suc m) d v b c hd hv hb hc =
     ∙ ap₂ (λ (x y : ℕ). agrees (b % 3) (c % 2) && contains (suc m) x y) bq cq
     ∙ ap (λ (t : Bool). agrees (b % 3) (c % 2) && t) (contains-top m d v (b / 3) (c / 2) hd hv (omega arith) (omega arith))
     ∙ and-swap (agrees (b % 3) (c % 2)) (agrees d v) (contains m (b / 3) (c / 2))
-
-only-and : (a e : Bool) (x : ℕ) → only (a && e) x ≡ only a (only e x)
-only-and true e x = refl
-only-and false e x = refl
 
 -- one half of the combinations of a box, those with the highest mark v: n are below
 half-top : (m d v b : ℕ) (f : ℕ → ℕ) → d < 3 → v < 2 → b < 3 ^ m

@@ -1,6 +1,6 @@
--- A box by its two masks, free marks and lowest combination: containment and whether two boxes meet are decided by and/compare.
-use Prim.Native.Nat.{ℕ, zero, suc, _+_, _*_, _-_, _/_, _%_, _^_, _<_, _≤_, min, max}
-use mathlib.Core.Bool.{Bool, true, _&&_}
+-- A box by its two masks, free marks and lowest combination: containment is decided by and/compare.
+use Prim.Native.Nat.{ℕ, zero, suc, _+_, _*_, _-_, _/_, _%_, _^_, _<_, _≤_, min}
+use mathlib.Core.Bool.{Bool, _&&_}
 use mathlib.Core.Path.{_≡_, refl, sym, _∙_, ap, ap₂}
 use native.Mathlib.Nat.{pow-suc, sub-zero, zero-mul, div-one, div-div-eq-div-mul, mod-eq-of-lt}
 use native.Mathlib.Omega.{arith}
@@ -9,16 +9,16 @@ use lib.Bits.{bitAnd, and-step, and-mask}
 use lib.Pow.{pow-mono}
 use borrow.Author.Tests.{eq-eqb}
 use Rattle.boxes.specs.Boxes.{agrees, contains, freeMarks, lowest}
-use Rattle.ground.proofs.Cases.{mark, digit, and-left, and-right, eqb-pair}
+use Rattle.ground.proofs.Cases.{mark, digit, eqb-pair}
 use Rattle.boxes.proofs.Numbers.{power-next, digit-put, digits-done}
-use Rattle.boxes.proofs.Choices.{freeMarks-lt, free-digit}
+use Rattle.boxes.proofs.Choices.{freeMarks-lt}
 
 -- the complement of a set of marks, at k bits, mark by mark
 
-other-rest : (k t : ℕ) → t < 2 ^ suc k → ((2 ^ suc k - 1) - t) / 2 ≡ (2 ^ k - 1) - t / 2
+pub other-rest : (k t : ℕ) → t < 2 ^ suc k → ((2 ^ suc k - 1) - t) / 2 ≡ (2 ^ k - 1) - t / 2
 other-rest k t l = omega (arith, pow-suc 2 k)
 
-other-mark : (k t : ℕ) → t < 2 ^ suc k → ((2 ^ suc k - 1) - t) % 2 ≡ 1 - t % 2
+pub other-mark : (k t : ℕ) → t < 2 ^ suc k → ((2 ^ suc k - 1) - t) % 2 ≡ 1 - t % 2
 other-mark k t l = omega (arith, pow-suc 2 k)
 
 -- c & !t, mark by mark
@@ -92,76 +92,3 @@ unfree-more m b i rest l n u =
 
 pub unfree-end : (m b i rest : ℕ) → m ≤ i → Unfree m b i rest → freeMarks m b ≡ 0
 unfree-end m b i rest l u = sym (digits-done 2 i _ _ 0 (freeMarks-end m i rest l) (u .marks))
-
--- Two boxes meet, which is to say that some combination is in both, exactly if each wants on, of what the other fixes, what the other wants on.
-
--- the marks that a wants on and b does not leave free, at k bits: `a.on & !b.free`
-unfoldable pub wanted : ℕ → ℕ → ℕ → ℕ → ℕ
-wanted m k a b = bitAnd (lowest m a) ((2 ^ k - 1) - freeMarks m b)
-
-wanted-step : (m k a b : ℕ) → m ≤ k → wanted (suc m) (suc k) a b ≡ wanted m k (a / 3) (b / 3) * 2 + min (a % 3 % 2) (1 - b % 3 / 2)
-unfolding wanted freeMarks lowest
-wanted-step m k a b h =
-    let f = freeMarks m (b / 3) in
-    let o = lowest m (a / 3) in
-    let lf : f < 2 ^ m = freeMarks-lt m (b / 3) in
-    let le : 2 ^ m ≤ 2 ^ k = pow-mono h in
-    let fr : (f * 2 + b % 3 / 2) / 2 ≡ f = omega arith in
-    let fv : (f * 2 + b % 3 / 2) % 2 ≡ b % 3 / 2 = omega arith in
-    let or : (o * 2 + a % 3 % 2) / 2 ≡ o = omega arith in
-    let ov : (o * 2 + a % 3 % 2) % 2 ≡ a % 3 % 2 = omega arith in
-    without-step k (o * 2 + a % 3 % 2) (f * 2 + b % 3 / 2) (omega (arith, pow-suc 2 k)) ∙ rw (fr, fv, or, ov)
-
-digits-meet : (d e v : ℕ) → d < 3 → e < 3 → v < 2 → agrees d v ≡ true → agrees e v ≡ true → min (d % 2) (1 - e / 2) ≡ min (e % 2) (1 - d / 2)
-digits-meet d e v hd he hv p q =
-    let x = free-digit d v hd hv p in
-    let y = free-digit e v he hv q in
-    omega arith
-
-digits-met : (d e : ℕ) → d < 3 → e < 3 → min (d % 2) (1 - e / 2) ≡ min (e % 2) (1 - d / 2) → agrees d (max (d % 2) (e % 2)) ≡ true
-unfolding agrees
-digits-met d e hd he =
-    digit (λ (d : ℕ). min (d % 2) (1 - e / 2) ≡ min (e % 2) (1 - d / 2) → agrees d (max (d % 2) (e % 2)) ≡ true) d hd
-    (digit (λ (e : ℕ). min 0 (1 - e / 2) ≡ min (e % 2) 1 → agrees 0 (max 0 (e % 2)) ≡ true) e he (λ w. refl) (λ w. absurd (omega arith)) (λ w. refl))
-    (digit (λ (e : ℕ). min 1 (1 - e / 2) ≡ min (e % 2) 1 → agrees 1 (max 1 (e % 2)) ≡ true) e he (λ w. absurd (omega arith)) (λ w. refl) (λ w. refl))
-    (λ w. refl)
-
-pub meet-wanted : (m k a b c : ℕ) → m ≤ k → contains m a c ≡ true → contains m b c ≡ true → wanted m k a b ≡ wanted m k b a
-unfolding contains
-meet-wanted zero k a b c h p q = unfold wanted freeMarks lowest in refl
-meet-wanted (suc m) zero a b c h p q = absurd (omega arith)
-meet-wanted (suc m) (suc k) a b c h p q =
-    let d = digits-meet (a % 3) (b % 3) (c % 2) (omega arith) (omega arith) (omega arith) (and-left _ _ p) (and-left _ _ q) in
-    let i = meet-wanted m k (a / 3) (b / 3) (c / 2) (omega arith) (and-right (agrees (a % 3) (c % 2)) _ p) (and-right (agrees (b % 3) (c % 2)) _ q) in
-    wanted-step m k a b (omega arith) ∙ ap₂ (λ (x y : ℕ). x * 2 + y) i d ∙ sym (wanted-step m k b a (omega arith))
-
--- the combination where they meet: what either wants on
-joint : ℕ → ℕ → ℕ → ℕ
-joint zero a b = 0
-joint (suc m) a b = joint m (a / 3) (b / 3) * 2 + max (a % 3 % 2) (b % 3 % 2)
-
-joint-swap : (m a b : ℕ) → joint m a b ≡ joint m b a
-unfolding joint
-joint-swap zero a b = refl
-joint-swap (suc m) a b = omega (arith, joint-swap m (a / 3) (b / 3))
-
-joint-contained : (m k a b : ℕ) → m ≤ k → a < 3 ^ m → wanted m k a b ≡ wanted m k b a → contains m a (joint m a b) ≡ true
-unfolding contains joint
-joint-contained zero k a b h l e = rw (eq-eqb a 0 (omega arith))
-joint-contained (suc m) zero a b h l e = absurd (omega arith)
-joint-contained (suc m) (suc k) a b h l e =
-    let x = wanted-step m k a b (omega arith) in
-    let y = wanted-step m k b a (omega arith) in
-    let j = joint m (a / 3) (b / 3) in
-    let r : (j * 2 + max (a % 3 % 2) (b % 3 % 2)) / 2 ≡ j = omega arith in
-    let v : (j * 2 + max (a % 3 % 2) (b % 3 % 2)) % 2 ≡ max (a % 3 % 2) (b % 3 % 2) = omega arith in
-    rw (r, v, digits-met (a % 3) (b % 3) (omega arith) (omega arith) (omega arith))
-    (joint-contained m k (a / 3) (b / 3) (omega arith) (omega (arith, pow-suc 3 m)) (omega arith))
-
-pub wanted-meet : (m k a b : ℕ) → m ≤ k → a < 3 ^ m → b < 3 ^ m → wanted m k a b ≡ wanted m k b a
-    → (c : ℕ) × (contains m a c ≡ true) × (contains m b c ≡ true)
-wanted-meet m k a b h la lb e = (
-  joint m a b,
-  joint-contained m k a b h la e,
-  ap (contains m b) (joint-swap m a b) ∙ joint-contained m k b a h lb (sym e),
-)

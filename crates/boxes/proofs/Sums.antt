@@ -1,6 +1,6 @@
 -- Laws of sums over the numbers below n and over a list, for any quantity summed.
 use Prim.Native.Nat.{ℕ, zero, suc, _+_, _*_, _<_, _≤_, zero-le}
-use mathlib.Core.Bool.{Bool, true, false}
+use mathlib.Core.Bool.{Bool, true, false, _&&_}
 use mathlib.Core.List.{List, [], _∷_}
 use mathlib.Core.Path.{_≡_, refl, sym, ap, subst, _∙_}
 use mathlib.Core.Logic.{⊎-elim}
@@ -83,6 +83,10 @@ sum-exchange n (b ∷ l) f = omega (arith, sum-exchange n l f, sum-add n (f b) (
 
 -- a test in front of a term
 
+pub only-and : (a e : Bool) (x : ℕ) → only (a && e) x ≡ only a (only e x)
+only-and true e x = refl
+only-and false e x = refl
+
 pub only-le : (a : Bool) (x : ℕ) → only a x ≤ x
 only-le true x = le-refl x
 only-le false x = zero-le
@@ -90,10 +94,6 @@ only-le false x = zero-le
 pub only-mono : (a : Bool) {x y : ℕ} → x ≤ y → only a x ≤ only a y
 only-mono true h = h
 only-mono false h = zero-le
-
-pub only-zero : (a : Bool) → only a 0 ≡ 0
-only-zero true = refl
-only-zero false = refl
 
 pub only-plus : (a : Bool) (x y d : ℕ) → y ≡ x + d → only a y ≡ only a x + only a d
 only-plus true x y d e = e

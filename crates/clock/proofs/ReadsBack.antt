@@ -9,7 +9,7 @@ use borrow.Author.Tests.{ltb-true, ltb-false}
 use Rattle.times.specs.declared.Time.{Time}
 use Rattle.times.specs.declared.Time.the-variants.{Value}
 use Rattle.times.specs.Texts.{Numeral, minutes, Readable}
-use Rattle.times.specs.Places.{Reads, value}
+use Rattle.times.specs.Places.{ReadsAs, value}
 use Rattle.times.proofs.Fronts.{numeral-digit, numeral-more, readable}
 use Rattle.times.proofs.Settled.{read-settled}
 use Rattle.print.specs.Texts.{decimal, clock}
@@ -53,6 +53,6 @@ clock-readable n h =
 
 -- of the text that stands in an area after a call of `put_time`, a call of `read` can give nothing but the number
 pub reads-back : {out later : List ℕ} {at next : ℕ} {time : Time} (n : ℕ) → n ≤ 35999 → at ≤ length out → Wrote out at (clock n) next later
-    → Reads Readable (take (next - at) (drop at later)) time → time ≡ Value n
+    → ReadsAs Readable (take (next - at) (drop at later)) time → time ≡ Value n
 reads-back {time = time} n h l w r =
-    read-settled (subst (λ (x : List ℕ). Reads Readable x time) (wrote-there w l) r) (value (clock-readable n h))
+    read-settled (subst (λ (x : List ℕ). ReadsAs Readable x time) (wrote-there w l) r) (value (clock-readable n h))

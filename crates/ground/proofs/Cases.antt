@@ -54,14 +54,6 @@ and-right true y e = e
 and-right false true e = refl
 and-right false false e = e
 
-pub and-yes : (x : Bool) → (x && true) ≡ x
-and-yes true = refl
-and-yes false = refl
-
-pub and-no : (x : Bool) → (x && false) ≡ false
-and-no true = refl
-and-no false = refl
-
 -- two tests of order that say the same
 pub leb-same : (a b c d : ℕ) → (a ≤ b → c ≤ d) → (c ≤ d → a ≤ b) → leb a b ≡ leb c d
 leb-same a b c d to from =

@@ -1,3 +1,4 @@
 pub mod Decides
+pub mod Every
 pub mod Texts
 pub mod Areas

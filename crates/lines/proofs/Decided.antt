@@ -12,7 +12,7 @@ use Rattle.times.specs.declared.Lead.the-variants.{Colon, Stop}
 use Rattle.ground.specs.Texts.{ascii}
 use Rattle.times.specs.Texts.{After, Behind, Readable}
 use Rattle.ground.specs.Texts.{Begins}
-use Rattle.times.specs.Places.{Reads}
+use Rattle.times.specs.Places.{ReadsAs}
 use Rattle.times.specs.Parts.{Led, moved, Follows}
 use Rattle.times.proofs.Behinds.{after-end, after-more, behind-none, behind-tens, behind-one, behind-ones, behind-two}
 use Rattle.times.proofs.Fronts.{SoFar, far-none, far-step, stop-at, colon-at, end-at, led-stop, led-on}
@@ -43,10 +43,10 @@ range-or a z c good bad = below-or c a (λ l. bad (λ w. omega (arith, w .0))) (
 
 -- running times
 
-after-decided : (n x : ℕ) (l : List ℕ) → (r : Time) × Reads (After n x) l r
+after-decided : (n x : ℕ) (l : List ℕ) → (r : Time) × ReadsAs (After n x) l r
 after-decided n x l = same-or (length l) 0 (λ e. (Value (n * 60 + x), after-end n x l e)) (λ e. (Fault 0, after-more n x l (omega arith)))
 
-behind-decided : (n : ℕ) (l : List ℕ) → (r : Time) × Reads (Behind n) l r
+behind-decided : (n : ℕ) (l : List ℕ) → (r : Time) × ReadsAs (Behind n) l r
 behind-decided n l =
     same-or (length l) 0 (λ e. (Fault 0, behind-none n l e)) (λ e.
     range-or 48 53 (getD l 0 0)
@@ -78,10 +78,10 @@ led-decided t (suc k) i n h f =
     (λ w. led-decided t k (i + 1) (n * 10 + (getD t i 0 - 48)) (omega arith) (far-step t i n f l w))
     (λ w. (Stop i, stop-at t i n f l (λ q z. e q) w)))
 
-time-decided : (t : List ℕ) → (r : Time) × Reads Readable t r
+time-decided : (t : List ℕ) → (r : Time) × ReadsAs Readable t r
 time-decided t = go (led-decided t (length t) 0 0 (omega arith) far-none)
   where
-    go : (r : Lead) × Led t r → (r : Time) × Reads Readable t r
+    go : (r : Lead) × Led t r → (r : Time) × ReadsAs Readable t r
     go (Stop p, l) = (Fault p, led-stop l)
     go (Colon n k, l) = let w = behind-decided n (drop k t) in (moved k (w .0), led-on t n k l (w .1))
 
@@ -108,7 +108,7 @@ amount-decided m part =
     (λ l. (NoAmount, amount-short m part l))
   where
     go : m < length part → getD part m 0 ≡ 32 → (p : Pattern) × Patterned m (take m part) p
-        → (r : Time) × Reads Readable (take (length part - (m + 1)) (drop (m + 1) part)) r → (a : Amount) × Amounts m part a
+        → (r : Time) × ReadsAs Readable (take (length part - (m + 1)) (drop (m + 1) part)) r → (a : Amount) × Amounts m part a
     go l s (NoPattern, p) t = (NoAmount, amount-unnamed m part p)
     go l s (Combination c, p) (Fault q, t) = (NoAmount, amount-untimed m part t)
     go l s (Combination c, p) (Value d, t) = (Seconds c d, amount-read m part l s p t)

@@ -10,7 +10,7 @@ use Rattle.times.specs.declared.Time.the-variants.{Value, Fault}
 use Rattle.ground.specs.Texts.{ascii}
 use Rattle.times.specs.Texts.{Readable}
 use Rattle.ground.specs.Texts.{Begins}
-use Rattle.times.specs.Places.{Reads, value, fault}
+use Rattle.times.specs.Places.{ReadsAs, value, fault}
 use Rattle.lines.specs.declared.Order.{Order}
 use Rattle.lines.specs.declared.Order.the-variants.{Enter, Leave, Receive, Withdraw, End, Unreadable}
 use Rattle.lines.specs.declared.First.the-variants.{Marks, NotMarks}
@@ -90,11 +90,11 @@ module _ (m : ℕ) (part : List ℕ) where
   time-lent : take (length part - (m + 1)) (drop (m + 1) part) ≡ drop (m + 1) part
   time-lent = take-all (length part - (m + 1)) (drop (m + 1) part) (omega (arith, length-drop (m + 1) part))
 
-  pub amount-untimed : {p : ℕ} → Reads Readable (take (length part - (m + 1)) (drop (m + 1) part)) (Fault p) → Amounts m part NoAmount
+  pub amount-untimed : {p : ℕ} → ReadsAs Readable (take (length part - (m + 1)) (drop (m + 1) part)) (Fault p) → Amounts m part NoAmount
   amount-untimed (fault q x) = Amounts.none (λ c d n. q d (subst (λ (t : List ℕ). Readable t d) (sym (time-lent ∙ time-at n)) (n .readable)))
 
   pub amount-read : {c d : ℕ} → m < length part → getD part m 0 ≡ 32 → Patterned m (take m part) (Combination c)
-      → Reads Readable (take (length part - (m + 1)) (drop (m + 1) part)) (Value d) → Amounts m part (Seconds c d)
+      → ReadsAs Readable (take (length part - (m + 1)) (drop (m + 1) part)) (Value d) → Amounts m part (Seconds c d)
   amount-read {c} {d} h s (combination n) (value r) =
       seconds (record {
         small = n .small;

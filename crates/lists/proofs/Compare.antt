@@ -1,6 +1,6 @@
 -- Two lists compared place by place: as long as the places before i are equal, which is the smaller is settled by what follows.
 use mathlib.Core.Path.{_≡_, refl, sym, ap₂, _∙_}
-use mathlib.Core.Bool.{true, false, false≢true}
+use mathlib.Core.Bool.{true, false}
 use mathlib.Core.List.{List, [], _∷_}
 use mathlib.Core.Logic.{_⊎_, inl, inr, _↔_, ⊎-elim}
 use Prim.Native.Nat.{ℕ, suc, _+_, _<_, _≤_}
@@ -8,7 +8,8 @@ use native.Mathlib.Numerals.{add-one}
 use native.Mathlib.Omega.{arith}
 use lib.ListN.{length, drop, getD, drop-of-length-le}
 use lib.Seq.{drop-cons}
-use Rattle.ground.proofs.Cases.{below-or, same-or}
+use Rattle.ground.specs.Decides.{Decides}
+use Rattle.ground.proofs.Cases.{decided-yes, decided-no, below-or, same-or}
 use Rattle.lists.specs.Lists.{Smaller, Before}
 use Rattle.lists.specs.Compared.{HandsBack}
 
@@ -43,17 +44,17 @@ module _ (a b : List ℕ) (i : ℕ) (rest : RestSays a b i) where
 
 -- the answers
 module _ (a b : List ℕ) where
-  pub yes-shorter : length a < length b → (true ≡ true) ↔ Before a b
-  yes-shorter h = (λ e. inl h, λ x. refl)
+  pub yes-shorter : length a < length b → Decides true (Before a b)
+  yes-shorter h = decided-yes refl (inl h)
 
-  pub no-longer : length b < length a → (false ≡ true) ↔ Before a b
-  no-longer h = (λ e. absurd (false≢true e), ⊎-elim (λ x. absurd (omega arith)) (λ x. absurd (omega (arith, x .0))))
+  pub no-longer : length b < length a → Decides false (Before a b)
+  no-longer h = decided-no refl (⊎-elim (λ x. omega arith) (λ x. omega (arith, x .0)))
 
-  pub yes-smaller : length a ≡ length b → Smaller a b → (true ≡ true) ↔ Before a b
-  yes-smaller e s = (λ x. inr (e, s), λ x. refl)
+  pub yes-smaller : length a ≡ length b → Smaller a b → Decides true (Before a b)
+  yes-smaller e s = decided-yes refl (inr (e, s))
 
-  pub no-smaller : length a ≡ length b → (Smaller a b → ⊥) → (false ≡ true) ↔ Before a b
-  no-smaller e n = (λ x. absurd (false≢true x), ⊎-elim (λ x. absurd (omega arith)) (λ x. absurd (n (x .1))))
+  pub no-smaller : length a ≡ length b → (Smaller a b → ⊥) → Decides false (Before a b)
+  no-smaller e n = decided-no refl (⊎-elim (λ x. omega arith) (λ x. n (x .1)))
 
 -- every two lists are decided
 smaller-or : {P : Type 0} (l k : List ℕ) → (Smaller l k → P) → ((Smaller l k → ⊥) → P) → P

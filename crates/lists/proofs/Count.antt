@@ -1,18 +1,15 @@
 -- The counting form of a fitting list: how many boxes contain a combination. Of boxes that share nothing at most one does, so that what they
 -- hold of a combination, added up over the list, is what it has where it is covered.
 use mathlib.Core.Path.{_≡_, refl, sym, _∙_}
-use mathlib.Core.Bool.{Bool, true, false, true≢false, false≢true}
+use mathlib.Core.Bool.{Bool, true, false, false≢true}
 use mathlib.Core.List.{List, [], _∷_}
 use Prim.Native.Nat.{ℕ, _+_, _^_, _≤_}
 use native.Mathlib.Omega.{arith}
 use Rattle.boxes.specs.Sums.{sum, sumOver, only}
 use Rattle.boxes.specs.Boxes.{contains, sumIn}
-use Rattle.ground.proofs.Cases.{if}
+use Rattle.ground.proofs.Cases.{if, clash}
 use Rattle.boxes.proofs.Sums.{sum-ext, sum-exchange}
 use Rattle.lists.specs.Lists.{Boxes, covered, Apart, Fits}
-
-pub clash : {x : Bool} → x ≡ true → x ≡ false → ⊥
-clash p q = true≢false (sym p ∙ q)
 
 -- how many boxes of the list contain c
 unfoldable pub times : ℕ → List ℕ → ℕ → ℕ

@@ -1,7 +1,7 @@
 -- A fitting list exists wherever what is needed has room, and over m + 1 marks one of at most 2 ^ m boxes: for each pair of combinations that
 -- differ in mark 0, the pair's own box where both are needed, and otherwise the box of the one that is.
 use mathlib.Core.Path.{_≡_, refl, sym, ap, _∙_, subst, fun-ext}
-use mathlib.Core.Bool.{Bool, true, false, not, _&&_, and-false}
+use mathlib.Core.Bool.{Bool, true, false, not, _&&_, and-true, and-false}
 use mathlib.Core.List.{List, [], _∷_}
 use Prim.Native.Nat.{ℕ, zero, suc, _+_, _*_, _/_, _%_, _^_, _<_, _≤_, zero-le, max}
 use native.Mathlib.Nat.{pow-suc, le-refl}
@@ -10,12 +10,10 @@ use lib.Dec.{eqb, ltb, lit<}
 use lib.ListN.{length}
 use borrow.Author.Tests.{eq-eqb, ne-eqb, eqb-true, lt-ltb, le-ltb}
 use Rattle.boxes.specs.Boxes.{agrees, contains, through, single}
-use Rattle.ground.proofs.Cases.{if, below-or, same-or, and-left, and-right}
+use Rattle.ground.proofs.Cases.{if, clash, below-or, same-or, and-left, and-right}
 use Rattle.boxes.proofs.Choices.{through-lt, single-contains}
-use Rattle.lists.specs.Lists.{Fits, FirstShortest}
-use Rattle.lists.proofs.Count.{clash}
+use Rattle.lists.specs.Lists.{Fits, FirstShortest, Small}
 use Rattle.lists.proofs.Fit.{less, fits-cons, fits-none, fits-room, fits-small}
-use Rattle.lists.proofs.Lay.{Small}
 
 -- the box of c with mark 0 free contains the combinations that agree with c in the other marks
 pair-contains : (m c d : ℕ) → contains (suc m) (through (suc m) c 1) d ≡ contains m (single m (c / 2)) (d / 2)
@@ -35,8 +33,8 @@ module _ (m : ℕ) (need : ℕ → Bool) where
   abbrev ofPair : ℕ → ℕ → Bool
   ofPair k c = eqb (c / 2) k && need c
 
-  abbrev Listed : ℕ → Type 0
-  Listed k = (l : List ℕ) × Fits (suc m) (upto k) (upto k) l × (length l ≤ k)
+  abbrev Paired : ℕ → Type 0
+  Paired k = (l : List ℕ) × Fits (suc m) (upto k) (upto k) l × (length l ≤ k)
 
   upto-more : (k c : ℕ) → need c ≡ true → c / 2 ≤ k → upto (suc k) c ≡ true
   unfolding upto
@@ -57,7 +55,7 @@ module _ (m : ℕ) (need : ℕ → Bool) where
       (λ e. rw (e, and-false (ltb (c / 2) (suc k)), and-false (ltb (c / 2) k)))
 
   -- a box with just what is needed of pair k
-  with-box : (k b : ℕ) → b < 3 ^ suc m → ((c : ℕ) → contains (suc m) b c ≡ ofPair k c) → Listed k → Listed (suc k)
+  with-box : (k b : ℕ) → b < 3 ^ suc m → ((c : ℕ) → contains (suc m) b c ≡ ofPair k c) → Paired k → Paired (suc k)
   with-box k b lt is y =
       let e : upto k ≡ less (suc m) (upto (suc k)) b = fun-ext (λ c. sym (ap (λ (x : Bool). upto (suc k) c && not x) (is c) ∙ upto-less k c)) in (
         b ∷ y .0,
@@ -66,14 +64,10 @@ module _ (m : ℕ) (need : ℕ → Bool) where
       )
 
   -- nothing of pair k is needed
-  without : (k : ℕ) → ((c : ℕ) → ofPair k c ≡ false) → Listed k → Listed (suc k)
+  without : (k : ℕ) → ((c : ℕ) → ofPair k c ≡ false) → Paired k → Paired (suc k)
   without k none y =
-      let e : upto k ≡ upto (suc k) = fun-ext (λ c. sym (upto-less k c) ∙ ap (λ (x : Bool). upto (suc k) c && not x) (none c) ∙ and-on (upto (suc k) c)) in
+      let e : upto k ≡ upto (suc k) = fun-ext (λ c. sym (upto-less k c) ∙ ap (λ (x : Bool). upto (suc k) c && not x) (none c) ∙ and-true (upto (suc k) c)) in
       (y .0, subst (λ (p : ℕ → Bool). Fits (suc m) p p (y .0)) e (y .1), omega (arith, y .2))
-    where
-      and-on : (x : Bool) → (x && not false) ≡ x
-      and-on true = refl
-      and-on false = refl
 
   -- a test of pair k by its two combinations
   by-pair : (k : ℕ) (p : ℕ → Bool) → ((c : ℕ) → p c ≡ true → c / 2 ≡ k) → p (k * 2) ≡ need (k * 2) → p (k * 2 + 1) ≡ need (k * 2 + 1) → (c : ℕ) → p c ≡ ofPair k c
@@ -83,7 +77,7 @@ module _ (m : ℕ) (need : ℕ → Bool) where
       (λ h. let d : c ≡ k * 2 + 1 = omega arith in ap p d ∙ odd ∙ sym (ap need d))))
       (λ q. rw (ne-eqb (c / 2) k q) (if (p c) (λ e. absurd (q (only-k c e))) (λ e. e)))
 
-  step : (k : ℕ) → k < 2 ^ m → Listed k → Listed (suc k)
+  step : (k : ℕ) → k < 2 ^ m → Paired k → Paired (suc k)
   step k h y =
       let p = pow-suc 2 m in
       let half : k * 2 / 2 ≡ k = omega arith in
@@ -101,7 +95,7 @@ module _ (m : ℕ) (need : ℕ → Bool) where
       ∙ by-pair k (eqb (k * 2 + 1)) (λ d e. omega (arith, eqb-true (k * 2 + 1) d e)) (ne-eqb (k * 2 + 1) (k * 2) (λ z. omega arith) ∙ sym a) (eq-eqb (k * 2 + 1) (k * 2 + 1) refl ∙ sym b) c) y)
       (λ b. without k (λ c. sym (by-pair k (λ d. false) (λ d e. absurd (clash e refl)) (sym a) (sym b) c)) y))
 
-  pairs : (k : ℕ) → k ≤ 2 ^ m → Listed k
+  pairs : (k : ℕ) → k ≤ 2 ^ m → Paired k
   unfolding upto
   pairs zero h = ([], fits-none (suc m) _ _ (λ c t. clash t (ap (λ (x : Bool). x && need c) (le-ltb (c / 2) 0 zero-le))), zero-le)
   pairs (suc k) h = step k (omega arith) (pairs k (omega arith))

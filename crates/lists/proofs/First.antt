@@ -23,10 +23,6 @@ before-not l k (inl h) (inr g) = omega (arith, g .0)
 before-not l k (inr h) (inl g) = omega (arith, h .0)
 before-not l k (inr h) (inr g) = smaller-not l k (h .1) (g .1)
 
--- no list is before itself
-pub before-self : (l : List ℕ) → Before l l → ⊥
-before-self l h = before-not l l h h
-
 -- AT MOST ONE LIST IS THE FIRST SHORTEST
 pub unique : {m : ℕ} {need room : ℕ → Bool} {l k : List ℕ} → FirstShortest m need room l → FirstShortest m need room k → l ≡ k
 unique {m} {need} {room} {l} {k} f g = go (f .first k (g .fits) (g .rising)) (g .first l (f .fits) (f .rising))

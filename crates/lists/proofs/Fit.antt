@@ -8,9 +8,9 @@ use lib.ListN.{length}
 use borrow.Author.Tests.{not-true}
 use Rattle.boxes.specs.Boxes.{contains}
 use Rattle.boxes.specs.Sums.{sumOver}
-use Rattle.ground.proofs.Cases.{if, below-or, and-left, and-right}
+use Rattle.ground.proofs.Cases.{if, clash, below-or, and-left, and-right}
 use Rattle.lists.specs.Lists.{Boxes, covered, Apart, Fits, firstFrom, lowestOf}
-use Rattle.lists.proofs.Count.{clash, times, covered-in, covered-out, counted, fits-counted}
+use Rattle.lists.proofs.Count.{times, covered-in, covered-out, counted, fits-counted}
 
 -- ---- the first number in a set
 pub first-hit : (p : ℕ → Bool) (k f : ℕ) → p f ≡ true → firstFrom p (suc k) f ≡ f
@@ -90,10 +90,6 @@ module _ (m : ℕ) where
 
     pub fits-head : Fits m need room (b ∷ l) → Inside m b room
     fits-head f c e = f .inside c (covered-in m b l c e)
-
-    pub fits-box : Fits m need room (b ∷ l) → b < 3 ^ m
-    unfolding Boxes
-    fits-box f = f .boxes .0
 
   -- nothing is needed: the empty list fits
   pub fits-none : (need room : ℕ → Bool) → ((c : ℕ) → need c ≡ true → ⊥) → Fits m need room []

@@ -8,9 +8,8 @@ use lib.Dec.{eqb, ltb}
 use borrow.Author.Tests.{eqb-true, ltb-true}
 use Rattle.boxes.specs.Boxes.{agrees, contains, through}
 use Rattle.ground.proofs.Cases.{if, and-left, and-right}
-use Rattle.lists.specs.Lists.{firstFrom, FirstShortest}
-use Rattle.lists.specs.Known.{among, Row, table, Shown}
-use Rattle.lists.proofs.Lay.{Small}
+use Rattle.lists.specs.Lists.{firstFrom, FirstShortest, Small}
+use Rattle.lists.specs.Known.{among, Example, table, Shown}
 use Rattle.lists.proofs.Model.{laying, trying, seeking, fewest, found}
 
 -- each is below n
@@ -28,10 +27,10 @@ gives : Option (List ℕ) → List ℕ → Bool
 gives none l = false
 gives (some k) l = alike k l
 
-good : Row → Bool
+good : Example → Bool
 good s = below (2 ^ s .m) (s .class) && gives (fewest (s .m) (among (s .class)) (among (s .class)) (2 ^ s .m + 1) 0) (s .list)
 
-all-good : List Row → Bool
+all-good : List Example → Bool
 all-good [] = true
 all-good (s ∷ l) = good s && all-good l
 
@@ -61,7 +60,7 @@ unfolding gives
 gives-same none l k e q = absurd (false≢true e)
 gives-same (some j) l k e q = let p = alike-same j l e in cc
 
-shown : (l : List Row) → all-good l ≡ true → Shown l
+shown : (l : List Example) → all-good l ≡ true → Shown l
 unfolding all-good good Shown
 shown [] e = tt
 shown (s ∷ l) e =

@@ -1,7 +1,7 @@
 -- Laying boxes one after the other on the lowest needed combination c, where every fitting list has `left` boxes and one more: the boxes through c
 -- are tried in rising number, and the first that leaves a list of `left` boxes is the front of the first shortest list.
 use mathlib.Core.Path.{_≡_, refl, sym, ap, _∙_, subst}
-use mathlib.Core.Bool.{Bool, true, false, false≢true}
+use mathlib.Core.Bool.{Bool, true, false≢true}
 use mathlib.Core.List.{List, [], _∷_}
 use mathlib.Core.Logic.{_⊎_, inl, inr}
 use Prim.Native.Nat.{ℕ, _+_, _^_, _<_, _≤_, zero-le}
@@ -11,17 +11,9 @@ use lib.ListN.{length}
 use Rattle.boxes.specs.Boxes.{contains, through, freeMarks}
 use Rattle.ground.proofs.Cases.{below-or}
 use Rattle.boxes.proofs.Choices.{through-lt, through-rises, through-contains, through-free, freeMarks-lt}
-use Rattle.lists.specs.Lists.{covered, Fits, lowestOf, Rising, Smaller, Before, FirstShortest}
+use Rattle.lists.specs.Lists.{covered, Fits, lowestOf, Rising, Smaller, Before, FirstShortest, AtLeast, Small}
 use Rattle.lists.proofs.Fit.{less, Inside, lowest-true, lowest-le, fits-tail, fits-cons, fits-head, fits-none, fronted}
 use Rattle.lists.proofs.Order.{away-rest, rising-tail, rising-cons, head-has}
-
--- no fitting list has fewer than n boxes
-abbrev pub AtLeast : ℕ → (ℕ → Bool) → (ℕ → Bool) → ℕ → Type 0
-AtLeast m need room n = (l : List ℕ) → Fits m need room l → n ≤ length l
-
--- combinations of a set are below 2 ^ m
-abbrev pub Small : ℕ → (ℕ → Bool) → Type 0
-Small m need = (c : ℕ) → need c ≡ true → c < 2 ^ m
 
 module _ (m : ℕ) (need room : ℕ → Bool) where
   pub none-needed : Small m need → 2 ^ m ≤ lowestOf m need → (c : ℕ) → need c ≡ true → ⊥
@@ -122,8 +114,8 @@ module _ (m : ℕ) (need room : ℕ → Bool) where
               go e (inl p) = inl p
               go e (inr p) = inr (inr (omega (arith, size, e), p))
 
-          pub laid : FirstShortest m need room (through m c t ∷ l)
-          laid = record {
+          pub laid-shortest : FirstShortest m need room (through m c t ∷ l)
+          laid-shortest = record {
             fits = laid-fits;
             rising = rising-cons m need (through m c t) some-need (ap (contains m (through m c t)) lowest ∙ through-contains m c t small) l (away-rest m laid-fits) (rest .rising);
             shortest = λ k f. omega (arith, least k f, size);

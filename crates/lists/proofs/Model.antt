@@ -11,13 +11,12 @@ use lib.Dec.{ltb}
 use lib.ListN.{length}
 use borrow.Author.Tests.{lt-ltb, le-ltb, not-true}
 use Rattle.boxes.specs.Boxes.{contains, through}
-use Rattle.ground.proofs.Cases.{if, below-or, and-left, and-right}
+use Rattle.ground.proofs.Cases.{if, clash, below-or, and-left, and-right}
 use Rattle.boxes.proofs.Boxes.{contains-combination}
 use Rattle.boxes.proofs.Choices.{through-lt}
-use Rattle.lists.specs.Lists.{Fits, lowestOf, FirstShortest}
-use Rattle.lists.proofs.Count.{clash}
+use Rattle.lists.specs.Lists.{Fits, lowestOf, FirstShortest, AtLeast, Small}
 use Rattle.lists.proofs.Fit.{less, Inside, lowest-true, lowest-le}
-use Rattle.lists.proofs.Lay.{AtLeast, Small, none-needed, first-empty, some-box, Tried, tried-none, tried-next, longer-out, longer-deep, least-rest, laid, tried-all}
+use Rattle.lists.proofs.Lay.{none-needed, first-empty, some-box, Tried, tried-none, tried-next, longer-out, longer-deep, least-rest, laid-shortest, tried-all}
 use Rattle.lists.proofs.Exist.{exists}
 
 -- what finds a list of given boxes for what is needed, in a room
@@ -93,7 +92,7 @@ module _ (m : ℕ) where
           (λ q. rw (w, trying, laying, q) (trying-right k (suc t) (omega arith) (subst (Tried m need room left c) (add-one t) (tried-next m need room left c t h (longer-deep m need room left b (subst (Right m (less m need b) (less m room b) left) q r))))))
           (λ l q.
           let y : FirstShortest m (less m need b) (less m room b) l × (length l ≡ left) = subst (Right m (less m need b) (less m room b) left) q r in
-          rw (w, trying, laying, q) (laid m need room left least c refl some-need t h l i (y .0) (y .1), omega (arith, y .1))))
+          rw (w, trying, laying, q) (laid-shortest m need room left least c refl some-need t h l i (y .0) (y .1), omega (arith, y .1))))
           (λ w. rw (w, trying, laying) (trying-right k (suc t) (omega arith) (subst (Tried m need room left c) (add-one t) (tried-next m need room left c t h (longer-out m need room left b (within-out m b room w))))))
 
   empty-right : (left : ℕ) (need room : ℕ → Bool) → Small m need → AtLeast m need room left → 2 ^ m ≤ lowestOf m need → Right m need room left (some [])

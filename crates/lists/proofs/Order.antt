@@ -5,9 +5,9 @@ use mathlib.Core.List.{List, [], _∷_}
 use Prim.Native.Nat.{ℕ, _^_, _<_, _≤_}
 use native.Mathlib.Omega.{arith}
 use Rattle.boxes.specs.Boxes.{contains}
-use Rattle.ground.proofs.Cases.{if, below-or, and-left, and-right}
+use Rattle.ground.proofs.Cases.{if, clash, below-or, and-left, and-right}
 use Rattle.lists.specs.Lists.{covered, Apart, Fits, lowestOf, lowestNeeded, Ahead, Rising}
-use Rattle.lists.proofs.Count.{clash, covered-in, covered-out}
+use Rattle.lists.proofs.Count.{covered-in, covered-out}
 use Rattle.lists.proofs.Fit.{less, lowest-true, lowest-le}
 
 and-both : (x y : Bool) → x ≡ true → y ≡ true → (x && y) ≡ true

@@ -1,7 +1,7 @@
 -- An independent set of boxes inside the class fits the class exactly if it is maximal: a combination left uncovered is a box that can be added,
 -- and a box inside a covered class meets one of those that cover it. So a smallest maximal independent set is a shortest fitting list.
 use mathlib.Core.Path.{_≡_, sym, ap, _∙_}
-use mathlib.Core.Bool.{Bool, true, false, false≢true}
+use mathlib.Core.Bool.{Bool, true, false≢true}
 use mathlib.Core.List.{List, [], _∷_, List·Memᴰ, List·Memᴰ·head, List·Memᴰ·tail, List·Memᴰ·not-nil, List·Memᴰ·cases-cons}
 use mathlib.Core.Logic.{_↔_, ⊎-elim}
 use mathlib.Core.Path.{refl}
@@ -9,12 +9,11 @@ use Prim.Native.Nat.{ℕ}
 use lib.ListN.{length}
 use borrow.Author.Tests.{eqb-true}
 use Rattle.boxes.specs.Boxes.{contains, lowest, single}
-use Rattle.ground.proofs.Cases.{if}
+use Rattle.ground.proofs.Cases.{if, clash}
 use Rattle.boxes.proofs.Choices.{through-lt, through-contains, single-contains, lowest-contained}
-use Rattle.lists.specs.Lists.{Boxes, covered, Apart, Fits, FirstShortest}
+use Rattle.lists.specs.Lists.{Boxes, covered, Apart, Fits, FirstShortest, Small, AtLeast}
 use Rattle.lists.specs.Pottosin.{Independent, Maximal, SmallestMaximal}
-use Rattle.lists.proofs.Count.{clash, covered-in, covered-out}
-use Rattle.lists.proofs.Lay.{Small, AtLeast}
+use Rattle.lists.proofs.Count.{covered-in, covered-out}
 
 module _ (m : ℕ) where
   -- a combination is covered exactly if a member contains it

@@ -30,6 +30,14 @@ pub record Fits (m : ℕ) (need room : ℕ → Bool) (l : List ℕ) : Type 0 whe
   pub covers : (c : ℕ) → need c ≡ true → covered m l c ≡ true
   pub inside : (c : ℕ) → covered m l c ≡ true → room c ≡ true
 
+-- no fitting list has fewer than n boxes
+abbrev pub AtLeast : ℕ → (ℕ → Bool) → (ℕ → Bool) → ℕ → Type 0
+AtLeast m need room n = (l : List ℕ) → Fits m need room l → n ≤ length l
+
+-- the combinations of a set are below 2^m
+abbrev pub Small : ℕ → (ℕ → Bool) → Type 0
+Small m need = (c : ℕ) → need c ≡ true → c < 2 ^ m
+
 -- the first of the k numbers from f on that is in the set, and f + k where none is
 unfoldable pub firstFrom : (ℕ → Bool) → ℕ → ℕ → ℕ
 firstFrom p zero f = f
@@ -68,5 +76,5 @@ Before l k = (length l < length k) ⊎ ((length l ≡ length k) × Smaller l k)
 pub record FirstShortest (m : ℕ) (need room : ℕ → Bool) (l : List ℕ) : Type 0 where
   pub fits : Fits m need room l
   pub rising : Rising m need l
-  pub shortest : (k : List ℕ) → Fits m need room k → length l ≤ length k
+  pub shortest : AtLeast m need room (length l)
   pub first : (k : List ℕ) → Fits m need room k → Rising m need k → (l ≡ k) ⊎ Before l k

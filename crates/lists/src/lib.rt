@@ -1,13 +1,11 @@
 // Lists of boxes: the comparison of two lent lists. Any bytes are taken as box numbers.
-ghost use mathlib.Core.Path.{_≡_};
-ghost use mathlib.Core.Bool.{true};
-ghost use mathlib.Core.Logic.{_↔_};
+ghost use Rattle.ground.specs.Decides.{Decides};
 ghost use Rattle.lists.specs.Lists.{Before};
 ghost use Rattle.lists.specs.Compared.{HandsBack};
 
 // Whether list a is before list b.
 pub fn is_before(a: &[u8], b: &[u8]) -> bool
-    ensures { λ r. ⌜ (r ≡ true) ↔ Before (now (a .entry)) (now (b .entry)) ⌝ }
+    ensures { λ r. ⌜ Decides r (Before (now (a .entry)) (now (b .entry))) ⌝ }
 {
     if a.len() < b.len() {
         return true;

@@ -60,12 +60,9 @@ unfolding pattern
 pattern-length zero b = refl
 pattern-length (suc m) b = omega (arith, length-append (pattern m (b / 3)) (sign (b % 3) ∷ []), pattern-length m (b / 3))
 
--- 64 bits: at most 20 digits, and 21 bytes of a time; up to 4,000,000,000 seconds at most 11 bytes
+-- 64 bits: at most 20 digits, and 21 bytes of a time
 pub number-room : (n : ℕ) → n < 2 ^ 64 → length (decimal n) ≤ 20
 number-room n h = decimal-length 20 n (omega arith) (omega arith)
 
 pub time-room : (s : ℕ) → s < 2 ^ 64 → length (clock s) ≤ 21
 time-room s h = omega (arith, clock-length s, decimal-length 18 (s / 60) (omega arith) (omega arith))
-
-pub held-room : (s : ℕ) → s ≤ 4000000000 → length (clock s) ≤ 11
-held-room s h = omega (arith, clock-length s, decimal-length 8 (s / 60) (omega arith) (omega arith))

@@ -1,11 +1,12 @@
 // Numbers, running times and patterns, written into a lent area: each call lays its text at a place and answers the next place.
 ghost use mathlib.Core.Path.{_≡_};
-ghost use mathlib.Core.List.{[], _∷_};
+ghost use mathlib.Core.List.{[]};
 ghost use Prim.Native.Nat.{_+_, _≤_, _<_};
 ghost use lib.ListN.{length};
 ghost use Rattle.print.specs.Texts.{decimal, clock, sign, pattern};
 ghost use Rattle.ground.specs.Areas.{Wrote};
 
+// The byte of a decimal digit.
 fn digit(d: u64) -> u8
     requires { ⌜ d < 10 ⌝ }
     ensures { λ r. ⌜ r ≡ 48 + d ⌝ }
@@ -25,7 +26,7 @@ pub fn put_number(out: &mut [u8], at: usize, n: u64) -> usize
     ground::put_byte(out, next, digit(n % 10))
 }
 
-// Seconds as minutes, a colon and two digits, at most 21 bytes, and 11 up to 4,000,000,000 seconds.
+// Seconds as minutes, a colon and two digits, at most 21 bytes.
 pub fn put_time(out: &mut [u8], at: usize, seconds: u64) -> usize
     requires { ⌜ at + length (clock seconds) ≤ length (now out) ⌝ }
     ensures { λ r. ⌜ Wrote (now (out .entry)) at (clock seconds) r (now (out .exit)) ⌝ }
@@ -36,6 +37,7 @@ pub fn put_time(out: &mut [u8], at: usize, seconds: u64) -> usize
     ground::put_byte(out, ones, digit(seconds % 60 % 10))
 }
 
+// The byte of a box's digit.
 fn sign(d: usize) -> u8
     requires { ⌜ d < 3 ⌝ }
     ensures { λ r. ⌜ r ≡ sign d ⌝ }

@@ -12,11 +12,10 @@ use lib.Dec.{eqb}
 use lib.Pow.{shr-shr}
 use borrow.Author.Tests.{eqb-true, eqb-false, eq-eqb, ne-eqb}
 use Rattle.boxes.specs.Boxes.{contains}
-use Rattle.ground.proofs.Cases.{if, below-or, mark, and-right}
-use Rattle.lists.specs.Lists.{lowestOf}
-use Rattle.lists.proofs.Count.{clash}
+use Rattle.boxes.proofs.Masks.{other-rest, other-mark}
+use Rattle.ground.proofs.Cases.{if, clash, below-or, mark, and-right}
+use Rattle.lists.specs.Lists.{lowestOf, Small}
 use Rattle.lists.proofs.Fit.{less, Inside, lowest-is}
-use Rattle.lists.proofs.Lay.{Small}
 use Rattle.seek.specs.Answer.{has}
 
 and-bit : (x y : ℕ) → x < 2 → y < 2 → eqb (min x y) 1 ≡ (eqb x 1 && eqb y 1)
@@ -39,13 +38,10 @@ unfolding has
 has-not zero zero s hs hc = absurd (not-suc-le-zero hc)
 has-not (suc c) zero s hs hc = absurd (not-suc-le-zero hc)
 has-not zero (suc k) s hs hc =
-    let p = pow-suc 2 k in
-    let e : ((2 ^ suc k - 1) - s) % 2 ≡ 1 - s % 2 = omega arith in
-    ap (λ (x : ℕ). eqb x 1) e ∙ mark (λ (v : ℕ). eqb (1 - v) 1 ≡ not (eqb v 1)) (s % 2) (omega arith) refl refl
+    ap (λ (x : ℕ). eqb x 1) (other-mark k s hs) ∙ mark (λ (v : ℕ). eqb (1 - v) 1 ≡ not (eqb v 1)) (s % 2) (omega arith) refl refl
 has-not (suc c) (suc k) s hs hc =
     let p = pow-suc 2 k in
-    let e : ((2 ^ suc k - 1) - s) / 2 ≡ (2 ^ k - 1) - s / 2 = omega arith in
-    ap (λ (x : ℕ). has x c) e ∙ has-not c k (s / 2) (omega arith) (omega arith)
+    ap (λ (x : ℕ). has x c) (other-rest k s hs) ∙ has-not c k (s / 2) (omega arith) (omega arith)
 
 pub has-zero : (c : ℕ) → has 0 c ≡ false
 unfolding has

@@ -1,19 +1,21 @@
 -- The two tables hold what they should: one test of each, computed over all entries at five marks; over fewer marks a box is the same.
-use mathlib.Core.Path.{_≡_, refl, sym, ap, _∙_}
+use mathlib.Core.Path.{_≡_, refl, sym, _∙_}
 use mathlib.Core.Bool.{Bool, true, false, Bool·beq, _&&_, false≢true}
 use mathlib.Core.List.{List, [], _∷_}
-use Prim.Native.Nat.{ℕ, zero, suc, _+_, _^_, _<_, _≤_}
-use native.Mathlib.Nat.{pow-le-pow-right, add-zero, zero-add}
+use Prim.Native.Nat.{ℕ, _^_, _<_, _≤_}
 use native.Mathlib.Omega.{arith}
-use lib.Dec.{eqb, ltb, lit<}
-use lib.ListN.{length, getD}
+use lib.Dec.{eqb, ltb}
+use lib.ListN.{getD}
 use lib.Pow.{pow-mono}
 use borrow.Author.Tests.{ltb-true, eqb-true}
 use Rattle.boxes.specs.Boxes.{agrees, contains, through, single}
+use Rattle.ground.specs.Every.{every}
+use Rattle.ground.proofs.Every.{every-at}
 use Rattle.ground.proofs.Cases.{if, below-or, and-left, and-right}
 use Rattle.boxes.proofs.Boxes.{contains-combination}
+use Rattle.boxes.proofs.Numbers.{boxes-mono}
 use Rattle.boxes.proofs.Choices.{contains-wide, through-wide}
-use Rattle.seek.specs.Answer.{has}
+use Rattle.seek.specs.Answer.{setMarks, has}
 use Rattle.seek.specs.Steps.{Sets, Singles}
 use Rattle.seek.proofs.Bits.{has-high}
 
@@ -43,40 +45,12 @@ singles =
     0 ∷ 1 ∷ 3 ∷ 4 ∷ 9 ∷ 10 ∷ 12 ∷ 13 ∷ 27 ∷ 28 ∷ 30 ∷ 31 ∷ 36 ∷ 37 ∷ 39 ∷ 40 ∷ 81 ∷ 82 ∷ 84 ∷ 85 ∷ 90 ∷ 91 ∷ 93 ∷ 94 ∷ 108 ∷ 109 ∷ 111 ∷
     112 ∷ 117 ∷ 118 ∷ 120 ∷ 121 ∷ []
 
--- the test passes at each entry and its place, counted from i
-every : (ℕ → ℕ → Bool) → ℕ → List ℕ → Bool
-every f i [] = true
-every f i (x ∷ xs) = f i x && every f (suc i) xs
-
-every-at : (f : ℕ → ℕ → Bool) (xs : List ℕ) (i k : ℕ) → every f i xs ≡ true → k < length xs → f (i + k) (getD xs k 0) ≡ true
-unfolding every
-every-at f [] i k e h = absurd (omega arith)
-every-at f (x ∷ xs) i zero e h = ap (λ (n : ℕ). f n x) (add-zero i) ∙ and-left _ _ e
-every-at f (x ∷ xs) i (suc k) e h =
-    let d : i + suc k ≡ suc i + k = omega arith in
-    ap (λ (n : ℕ). f n (getD xs k 0)) d ∙ every-at f xs (suc i) k (and-right (f i x) _ e) (omega arith)
-
-table-at : (f : ℕ → ℕ → Bool) (xs : List ℕ) (k : ℕ) → every f 0 xs ≡ true → k < length xs → f k (getD xs k 0) ≡ true
-table-at f xs k e h = sym (ap (λ (n : ℕ). f n (getD xs k 0)) (zero-add k)) ∙ every-at f xs 0 k e h
-
--- each number below n passes
-allBelow : (ℕ → Bool) → ℕ → Bool
-allBelow p zero = true
-allBelow p (suc n) = p n && allBelow p n
-
-below-at : (p : ℕ → Bool) (n c : ℕ) → allBelow p n ≡ true → c < n → p c ≡ true
-unfolding allBelow
-below-at p zero c e h = absurd (omega arith)
-below-at p (suc n) c e h = below-or c n
-    (λ q. below-at p n c (and-right (p n) _ e) q)
-    (λ q. let d : c ≡ n = omega arith in ap p d ∙ and-left _ _ e)
-
 -- ---- the sets of the boxes
 set-right : ℕ → ℕ → Bool
-set-right b s = ltb s (2 ^ 32) && allBelow (λ c. Bool·beq (has s c) (contains 5 b c)) 32
+set-right b s = ltb s (2 ^ 32) && every (2 ^ setMarks) (λ c. Bool·beq (has s c) (contains setMarks b c))
 
-sets-computed : every set-right 0 sets ≡ true
-unfolding every set-right allBelow has agrees contains
+sets-computed : every (3 ^ setMarks) (λ b. set-right b (getD sets b 0)) ≡ true
+unfolding every set-right has agrees contains
 sets-computed = refl
 
 beq-same : (x y : Bool) → Bool·beq x y ≡ true → x ≡ y
@@ -85,34 +59,31 @@ beq-same true false e = absurd (false≢true e)
 beq-same false true e = absurd (false≢true e)
 beq-same false false e = refl
 
-pub three-le : (m : ℕ) → m ≤ 5 → 3 ^ m ≤ 243
-three-le m h = pow-le-pow-right {n = 3} (lit< tt) h
-
-pub sets-hold : (m : ℕ) → m ≤ 5 → Sets m sets
+pub sets-hold : (m : ℕ) → m ≤ setMarks → Sets m sets
 unfolding set-right
 sets-hold m h b l =
-    let g = three-le m h in
+    let g = boxes-mono h in
     let s = getD sets b 0 in
-    let r : set-right b s ≡ true = table-at set-right sets b sets-computed (omega arith) in
+    let r : set-right b s ≡ true = every-at (3 ^ setMarks) (λ a. set-right a (getD sets a 0)) b sets-computed (omega arith) in
     let lt : s < 2 ^ 32 = ltb-true _ _ (and-left _ _ r) in (
       lt,
       λ c. below-or c 32
-          (λ q. beq-same _ _ (below-at (λ d. Bool·beq (has s d) (contains 5 b d)) 32 c (and-right (ltb s (2 ^ 32)) _ r) q))
-          (λ q. has-high 32 c s lt q ∙ sym (if (contains 5 b c) (λ t. absurd (omega (arith, contains-combination 5 b c t))) (λ t. t)))
-          ∙ contains-wide m 5 b c h l,
+          (λ q. beq-same _ _ (every-at (2 ^ setMarks) (λ d. Bool·beq (has s d) (contains setMarks b d)) c (and-right (ltb s (2 ^ 32)) _ r) q))
+          (λ q. has-high 32 c s lt q ∙ sym (if (contains setMarks b c) (λ t. absurd (omega (arith, contains-combination setMarks b c t))) (λ t. t)))
+          ∙ contains-wide m setMarks b c h l,
     )
 
 -- ---- the boxes of the single combinations
 single-right : ℕ → ℕ → Bool
-single-right c x = eqb x (single 5 c)
+single-right c x = eqb x (single setMarks c)
 
-singles-computed : every single-right 0 singles ≡ true
+singles-computed : every (2 ^ setMarks) (λ c. single-right c (getD singles c 0)) ≡ true
 unfolding every single-right through
 singles-computed = refl
 
-pub singles-hold : (m : ℕ) → m ≤ 5 → Singles m singles
+pub singles-hold : (m : ℕ) → m ≤ setMarks → Singles m singles
 unfolding single-right
 singles-hold m h c l =
-    let p : 2 ^ m ≤ 2 ^ 5 = pow-mono h in
-    eqb-true (getD singles c 0) (single 5 c) (table-at single-right singles c singles-computed (omega arith))
-    ∙ through-wide m 5 c 0 h l (omega arith)
+    let p : 2 ^ m ≤ 2 ^ setMarks = pow-mono h in
+    eqb-true (getD singles c 0) (single setMarks c) (every-at (2 ^ setMarks) (λ d. single-right d (getD singles d 0)) c singles-computed (omega arith))
+    ∙ through-wide m setMarks c 0 h l (omega arith)

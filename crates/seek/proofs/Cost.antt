@@ -1,29 +1,29 @@
 -- Weights show that no short list fits. Each combination has two weights, p and q; a box costs `whole` and what q has more than p in it. Added up over
 -- a fitting list these are sums over what the list covers, and what the room has besides weighs no less in q than in p.
 use mathlib.Core.Path.{_≡_, refl, sym, ap, _∙_}
-use mathlib.Core.Bool.{Bool, true, false, _&&_}
+use mathlib.Core.Bool.{Bool, true, false}
 use mathlib.Core.List.{List, [], _∷_}
 use Prim.Native.Nat.{ℕ, _+_, _-_, _*_, _^_, _<_, _≤_, zero-le}
 use native.Mathlib.Nat.{zero-mul, suc-mul, mul-le-mul-right}
 use native.Mathlib.Numerals.{add-one}
 use native.Mathlib.Omega.{arith}
 use lib.Bits.{bitAnd}
+use lib.Dec.{lit<}
 use lib.ListN.{length, set, replicate, getD-replicate}
 use lib.Seq.{getD-set-same, getD-set-other}
 use Rattle.boxes.specs.Sums.{sum, sumOver, only}
 use Rattle.boxes.specs.Boxes.{contains}
-use Rattle.ground.proofs.Cases.{if, below-or}
-use Rattle.boxes.proofs.Sums.{sum-ext, sum-add, sum-le}
-use Rattle.lists.specs.Lists.{covered, Fits}
+use Rattle.ground.proofs.Cases.{if, clash, below-or}
+use Rattle.boxes.proofs.Numbers.{boxes-mono}
+use Rattle.boxes.proofs.Sums.{sum-ext, sum-add, sum-le, only-and}
+use Rattle.lists.specs.Lists.{covered, Fits, AtLeast}
 use Rattle.lists.specs.Pottosin.{Interval, Independent}
-use Rattle.lists.proofs.Count.{clash, lines-upto}
+use Rattle.lists.proofs.Count.{lines-upto}
 use Rattle.lists.proofs.Fit.{Inside}
-use Rattle.lists.proofs.Lay.{AtLeast}
 use Rattle.lists.proofs.Pottosin.{fits-independent}
-use Rattle.seek.specs.Answer.{has}
-use Rattle.seek.specs.Steps.{entry, weight, whole, Certified, Spare}
+use Rattle.seek.specs.Answer.{setMarks, has}
+use Rattle.seek.specs.Steps.{valueAt, weight, whole, Certified, Spare}
 use Rattle.seek.proofs.Bits.{has-and}
-use Rattle.seek.proofs.Computed.{three-le}
 
 -- what f gives where p holds
 abbrev pub given : (ℕ → Bool) → (ℕ → ℕ) → ℕ → ℕ
@@ -31,9 +31,9 @@ given p f c = only (p c) (f c)
 
 -- ---- THE CERTIFICATE
 module _ (m : ℕ) (costs : List ℕ) (p q : ℕ → ℕ) (need room : ℕ → Bool)
-    (rule : (b : ℕ) → Interval m room b → entry costs b + weight (contains m b) p ≡ whole + weight (contains m b) q) where
+    (rule : (b : ℕ) → Interval m room b → valueAt costs b + weight (contains m b) p ≡ whole + weight (contains m b) q) where
   paid : (l : List ℕ) → Independent m room l
-      → sumOver l (entry costs) + sumOver l (λ b. weight (contains m b) p) ≡ length l * whole + sumOver l (λ b. weight (contains m b) q)
+      → sumOver l (valueAt costs) + sumOver l (λ b. weight (contains m b) p) ≡ length l * whole + sumOver l (λ b. weight (contains m b) q)
   unfolding sumOver Independent
   paid [] i = omega (arith, zero-mul whole)
   paid (b ∷ l) i = omega (arith, rule b (i .0), paid l (i .2), suc-mul (length l) whole)
@@ -51,17 +51,17 @@ module _ (m : ℕ) (costs : List ℕ) (p q : ℕ → ℕ) (need room : ℕ → B
     spread : (l : List ℕ) → Fits m need room l → weight room p + weight (covered m l) q ≤ weight (covered m l) p + weight room q
     spread l f = omega (
       arith,
-      sum-add 32 (given room p) (given (covered m l) q),
-      sum-add 32 (given (covered m l) p) (given room q),
-      sum-le 32 (λ c. given room p c + given (covered m l) q c) (λ c. given (covered m l) p c + given room q c) (λ c h. one-each l f c),
+      sum-add (2 ^ setMarks) (given room p) (given (covered m l) q),
+      sum-add (2 ^ setMarks) (given (covered m l) p) (given room q),
+      sum-le (2 ^ setMarks) (λ c. given room p c + given (covered m l) q c) (λ c. given (covered m l) p c + given room q c) (λ c h. one-each l f c),
     )
 
-    pub certified : Certified m costs need room (weight room p) (weight room q)
-    certified l f = omega (
+    pub costs-most : (l : List ℕ) → Fits m need room l → sumOver l (valueAt costs) + weight room p ≤ length l * whole + weight room q
+    costs-most l f = omega (
       arith,
       paid l (fits-independent m room f),
-      lines-upto m 32 l p (f .apart),
-      lines-upto m 32 l q (f .apart),
+      lines-upto m (2 ^ setMarks) l p (f .apart),
+      lines-upto m (2 ^ setMarks) l q (f .apart),
       spread l f,
     )
 
@@ -69,10 +69,10 @@ module _ (m : ℕ) (costs : List ℕ) (p q : ℕ → ℕ) (need room : ℕ → B
 module _ (m : ℕ) (costs : List ℕ) (need room : ℕ → Bool) (k p q : ℕ) (z : Certified m costs need room p q) where
   pub too-few : k * whole + q < p → AtLeast m need room (k + 1)
   too-few h l f = below-or k (length l) (λ g. omega arith)
-      (λ g. absurd (omega (arith, z l f, mul-le-mul-right whole g, h)))
+      (λ g. absurd (omega (arith, z .cost l f, mul-le-mul-right whole g, h)))
 
   pub to-spare : p ≤ k * whole + q → Spare m costs need room k (k * whole + q - p)
-  to-spare h l f g = omega (arith, z l f, mul-le-mul-right whole g, h)
+  to-spare h l f g = omega (arith, z .cost l f, mul-le-mul-right whole g, h)
 
 -- ---- a weight in rising combinations
 sum-step : (c : ℕ) (f : ℕ → ℕ) → sum (c + 1) f ≡ sum c f + f c
@@ -90,21 +90,17 @@ pub weight-out : (c : ℕ) (p : ℕ → Bool) (f : ℕ → ℕ) → p c ≡ fals
 weight-out c p f e = sum-step c (given p f) ∙ ap (λ (x : Bool). sum c (given p f) + only x (f c)) e ∙ omega arith
 
 -- ---- the table of costs
-only-and : (x y : Bool) (k : ℕ) → only (x && y) k ≡ only x (only y k)
-only-and true y k = refl
-only-and false y k = refl
-
 weight-same : (s : ℕ) (p : ℕ → Bool) (f : ℕ → ℕ) → ((c : ℕ) → has s c ≡ p c) → weight (has s) f ≡ weight p f
-weight-same s p f e = sum-ext 32 (given (has s) f) (given p f) (λ c h. ap (λ (x : Bool). only x (f c)) (e c))
+weight-same s p f e = sum-ext (2 ^ setMarks) (given (has s) f) (given p f) (λ c h. ap (λ (x : Bool). only x (f c)) (e c))
 
 weight-and : (s u : ℕ) (p : ℕ → Bool) (f : ℕ → ℕ) → ((c : ℕ) → has s c ≡ p c) → weight (has (bitAnd s u)) f ≡ weight p (given (has u) f)
-weight-and s u p f e = sum-ext 32 (given (has (bitAnd s u)) f) (given p (given (has u) f))
+weight-and s u p f e = sum-ext (2 ^ setMarks) (given (has (bitAnd s u)) f) (given p (given (has u) f))
     (λ c h. ap (λ (x : Bool). only x (f c)) (has-and c s u) ∙ only-and (has s c) (has u c) (f c) ∙ ap (λ (x : Bool). only x (only (has u c) (f c))) (e c))
 
 -- the boxes of the room below n cost what they should
 abbrev pub Priced : ℕ → (ℕ → Bool) → (ℕ → Bool) → (ℕ → ℕ) → (ℕ → ℕ) → List ℕ → ℕ → Type 0
 Priced m need room plus minus costs n =
-    (a : ℕ) → a < n → Inside m a room → entry costs a + weight (contains m a) (given need plus) ≡ whole + weight (contains m a) minus
+    (a : ℕ) → a < n → Inside m a room → valueAt costs a + weight (contains m a) (given need plus) ≡ whole + weight (contains m a) minus
 
 module _ (m need room : ℕ) (plus minus : ℕ → ℕ) (costs : List ℕ) (b : ℕ) (h : Priced m (has need) (has room) plus minus costs b) where
   pub priced-skip : (Inside m b (has room) → ⊥) → Priced m (has need) (has room) plus minus costs (b + 1)
@@ -119,16 +115,22 @@ module _ (m need room : ℕ) (plus minus : ℕ → ℕ) (costs : List ℕ) (b : 
       rw d (ap (λ (x : ℕ). x + weight (contains m b) (given (has need) plus)) (getD-set-same costs b v 0 lt)
       ∙ ap (λ (x : ℕ). v + x) (sym (weight-and s need (contains m b) plus e)) ∙ p ∙ ap (λ (x : ℕ). whole + x) (weight-same s (contains m b) minus e)))
 
-  pub priced-all : b ≡ 3 ^ m → Certified m costs (has need) (has room) (weight (has (bitAnd room need)) plus) (weight (has room) minus)
-  priced-all d = rw (weight-and room need (has room) plus (λ c. refl))
-      (certified m costs (given (has need) plus) minus (has need) (has room) (λ a i. h a (omega (arith, d, i .0)) (i .1)) (λ c e. rw e zero-le))
+  pub priced-all : b ≡ 3 ^ m → weight (has room) minus < 2 ^ 37
+      → Certified m costs (has need) (has room) (weight (has (bitAnd room need)) plus) (weight (has room) minus)
+  priced-all d small = record {
+    cost = rw (weight-and room need (has room) plus (λ c. refl))
+        (costs-most m costs (given (has need) plus) minus (has need) (has room) (λ a i. h a (omega (arith, d, i .0)) (i .1)) (λ c e. rw e zero-le));
+    small = small;
+  }
 
 -- weights of 0
-even : (m : ℕ) (costs : List ℕ) (room : ℕ → Bool) → ((b : ℕ) → b < 3 ^ m → entry costs b ≡ whole) → (l : List ℕ) → Independent m room l → sumOver l (entry costs) ≡ length l * whole
+even : (m : ℕ) (costs : List ℕ) (room : ℕ → Bool) → ((b : ℕ) → b < 3 ^ m → valueAt costs b ≡ whole) → (l : List ℕ) → Independent m room l → sumOver l (valueAt costs) ≡ length l * whole
 unfolding sumOver Independent
 even m costs room h [] i = sym (zero-mul whole)
 even m costs room h (b ∷ l) i = omega (arith, h b (i .0 .0), even m costs room h l (i .2), suc-mul (length l) whole)
 
-pub plain-certified : (m : ℕ) (need room : ℕ → Bool) → m ≤ 5 → Certified m (replicate 243 whole) need room 0 0
-plain-certified m need room h l f =
-    omega (arith, even m (replicate 243 whole) room (λ b q. getD-replicate 243 b whole 0 (omega (arith, q, three-le m h))) l (fits-independent m room f))
+pub plain-certified : (m : ℕ) (need room : ℕ → Bool) → m ≤ setMarks → Certified m (replicate (3 ^ setMarks) whole) need room 0 0
+plain-certified m need room h = record {
+  cost = λ l f. omega (arith, even m (replicate (3 ^ setMarks) whole) room (λ b q. getD-replicate (3 ^ setMarks) b whole 0 (omega (arith, q, boxes-mono h))) l (fits-independent m room f));
+  small = lit< tt;
+}

@@ -7,10 +7,9 @@ use Prim.Native.Nat.{ℕ, _^_, _<_}
 use native.Mathlib.Omega.{arith}
 use lib.ListN.{length, take}
 use lib.Seq.{length-take-le}
-use Rattle.lists.specs.Lists.{Fits}
+use Rattle.lists.specs.Lists.{Fits, AtLeast, Small}
 use Rattle.lists.proofs.Fit.{fits-small}
 use Rattle.lists.proofs.First.{unique}
-use Rattle.lists.proofs.Lay.{AtLeast, Small}
 use Rattle.lists.proofs.Exist.{exists}
 use Rattle.seek.specs.declared.Found.{Found}
 use Rattle.seek.specs.declared.Found.the-variants.{Boxes, Nothing}
@@ -23,13 +22,13 @@ none-fits m need room k s least h l f =
     omega (arith, least (x .0) (x .1), x .2)
 
 -- the list that an answer tells
-abbrev pub listed : Found → List ℕ → List ℕ
-listed (Boxes n) area = take n area
-listed Nothing area = []
+abbrev pub foundList : Found → List ℕ → List ℕ
+foundList (Boxes n) area = take n area
+foundList Nothing area = []
 
 -- NO TWO ANSWERS
 pub settled : (m : ℕ) (need room : ℕ → Bool) (r q : Found) (xs ys : List ℕ) → Sought m need room r xs → Sought m need room q ys
-    → (r ≡ q) × (listed r xs ≡ listed q ys)
+    → (r ≡ q) × (foundList r xs ≡ foundList q ys)
 settled m need room (Boxes n) (Boxes k) xs ys f g =
     let e = unique (f .1) (g .1) in
     (ap Boxes (sym (length-take-le n xs (f .0)) ∙ ap length e ∙ length-take-le k ys (g .0)), e)

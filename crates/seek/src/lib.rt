@@ -4,14 +4,13 @@ ghost use Prim.Native.Nat.{_+_, _*_, _-_, _^_, _≤_, _<_};
 ghost use lib.ListN.{length};
 ghost use Rattle.boxes.specs.Boxes.{through};
 ghost use Rattle.lists.specs.Lists.{lowestOf};
-ghost use Rattle.lists.proofs.Lay.{AtLeast};
-ghost use Rattle.seek.specs.Answer.{has, Sought};
-ghost use Rattle.seek.specs.Steps.{Sets, Singles, Reached, Node, Certified, weight, entry};
+ghost use Rattle.seek.specs.Answer.{setMarks, has, Askable, Sought};
+ghost use Rattle.seek.specs.Steps.{Sets, Singles, Reached, Stage, Node, Certified, weight, valueAt};
 
-mod tables;
+mod sets;
 
-use tables::SETS;
-use tables::SINGLES;
+use sets::SETS;
+use sets::SINGLES;
 
 // What is sought: the number of boxes, which stand at the front of the area; or nothing, where no list fits.
 pub enum Found {
@@ -21,8 +20,8 @@ pub enum Found {
 
 // The box through the combination c with the free marks t.
 fn box_on(m: usize, singles: &[usize; 32], c: usize, t: usize) -> usize
-    requires { ⌜ (m ≤ 5) × (c < 2 ^ m) × (t < 2 ^ m) × Singles m (now singles) ⌝ }
-    ensures { λ r. ⌜ (r ≡ through m c t) × (r < 3 ^ m) × (r < 243) ⌝ }
+    requires { ⌜ (m ≤ setMarks) × Singles m (now singles) × (c < 2 ^ m) × (t < 2 ^ m) ⌝ }
+    ensures { λ r. ⌜ (r ≡ through m c t) × (r < 3 ^ m) × (r < 3 ^ setMarks) ⌝ }
 {
     singles[c | t] + singles[t]
 }
@@ -39,7 +38,8 @@ fn cover(
     spare: u64,
     area: &mut [u8],
 ) -> bool
-    requires { ⌜ Node m (now sets) (now singles) (now costs) need room left spare × (left ≤ length (now area)) ⌝ }
+    requires { ⌜ Node m (now sets) (now singles) (now costs) need room left spare ⌝ }
+    requires { ⌜ left ≤ length (now area) ⌝ }
     ensures { λ r. ⌜ Reached m (has need) (has room) left r (now (area .exit)) ⌝ }
 {
     if need == 0 {
@@ -76,7 +76,8 @@ fn try_boxes(
     spare: u64,
     area: &mut [u8],
 ) -> bool
-    requires { ⌜ Node m (now sets) (now singles) (now costs) need room (left + 1) spare × (left < length (now area)) × (lowestOf m (has need) ≡ c) × (c < 2 ^ m) ⌝ }
+    requires { ⌜ Node m (now sets) (now singles) (now costs) need room (left + 1) spare ⌝ }
+    requires { ⌜ (left < length (now area)) × (lowestOf m (has need) ≡ c) × (c < 2 ^ m) ⌝ }
     ensures { λ r. ⌜ Reached m (has need) (has room) (left + 1) r (now (area .exit)) ⌝ }
 {
     let n = boxes::power2(m);
@@ -91,17 +92,8 @@ fn try_boxes(
                 let due = need & !s;
                 let free = room & !s;
                 let rest = spare - k;
-                if cover(
-                    m,
-                    sets,
-                    singles,
-                    costs,
-                    due,
-                    free,
-                    left,
-                    rest,
-                    &mut area[1..],
-                ) {
+                let behind = &mut area[1..];
+                if cover(m, sets, singles, costs, due, free, left, rest, behind) {
                     return true;
                 }
             }
@@ -123,7 +115,7 @@ struct Certificate {
 
 // The weight of a set of combinations.
 fn weight_of(s: u32, w: &[u32; 32]) -> u64
-    ensures { λ r. ⌜ (r ≡ weight (has s) (entry (now (w .entry)))) × (r < 2 ^ 37) ⌝ }
+    ensures { λ r. ⌜ (r ≡ weight (has s) (valueAt (now (w .entry)))) × (r < 2 ^ 37) ⌝ }
 {
     let mut total: u64 = 0;
     let mut c: usize = 0;
@@ -138,8 +130,8 @@ fn weight_of(s: u32, w: &[u32; 32]) -> u64
 
 // Weights of 0: each box costs the same.
 fn plain(m: usize, need: u32, room: u32) -> Certificate
-    requires { ⌜ m ≤ 5 ⌝ }
-    ensures { λ r. ⌜ Certified m (r .costs) (has need) (has room) (r .plus) (r .minus) × (r .minus < 2 ^ 37) ⌝ }
+    requires { ⌜ m ≤ setMarks ⌝ }
+    ensures { λ r. ⌜ Certified m (r .costs) (has need) (has room) (r .plus) (r .minus) ⌝ }
 {
     Certificate {
         costs: [WHOLE; 243],
@@ -157,8 +149,8 @@ fn certify(
     plus: &[u32; 32],
     minus: &[u32; 32],
 ) -> Certificate
-    requires { ⌜ (m ≤ 5) × Sets m (now sets) ⌝ }
-    ensures { λ r. ⌜ Certified m (r .costs) (has need) (has room) (r .plus) (r .minus) × (r .minus < 2 ^ 37) ⌝ }
+    requires { ⌜ (m ≤ setMarks) × Sets m (now sets) ⌝ }
+    ensures { λ r. ⌜ Certified m (r .costs) (has need) (has room) (r .plus) (r .minus) ⌝ }
 {
     let n = boxes::power3(m);
     let mut costs = [0u64; 243];
@@ -186,8 +178,8 @@ fn certify(
 
 // By weights that are proposed, and checked here.
 fn weighed(m: usize, sets: &[u32; 243], singles: &[usize; 32], need: u32, room: u32) -> Certificate
-    requires { ⌜ (m ≤ 5) × Sets m (now sets) ⌝ }
-    ensures { λ r. ⌜ Certified m (r .costs) (has need) (has room) (r .plus) (r .minus) × (r .minus < 2 ^ 37) ⌝ }
+    requires { ⌜ (m ≤ setMarks) × Sets m (now sets) ⌝ }
+    ensures { λ r. ⌜ Certified m (r .costs) (has need) (has room) (r .plus) (r .minus) ⌝ }
 {
     let w = weights::propose(sets, singles, need, room);
     let plus = w.plus;
@@ -208,7 +200,9 @@ fn of_size(
     minus: u64,
     area: &mut [u8],
 ) -> bool
-    requires { ⌜ (m ≤ 5) × (need < 2 ^ (2 ^ m)) × (k ≤ length (now area)) × Sets m (now sets) × Singles m (now singles) × AtLeast m (has need) (has room) k × Certified m (now costs) (has need) (has room) plus minus × (minus < 2 ^ 37) × (k ≤ 32) ⌝ }
+    requires { ⌜ Stage m (now sets) (now singles) need room k ⌝ }
+    requires { ⌜ Certified m (now costs) (has need) (has room) plus minus ⌝ }
+    requires { ⌜ (k ≤ 2 ^ setMarks) × (k ≤ length (now area)) ⌝ }
     ensures { λ r. ⌜ Reached m (has need) (has room) k r (now (area .exit)) ⌝ }
 {
     let all = k as u64 * WHOLE + minus;
@@ -220,7 +214,7 @@ fn of_size(
 
 // The first shortest list that covers `need` inside `room`, at the front of the area.
 pub fn shortest(m: usize, need: u32, room: u32, area: &mut [u8]) -> Found
-    requires { ⌜ (m ≤ 5) × (need < 2 ^ (2 ^ m)) × (2 ^ m ≤ length (now area)) ⌝ }
+    requires { ⌜ Askable m need (now area) ⌝ }
     ensures { λ r. ⌜ Sought m (has need) (has room) r (now (area .exit)) ⌝ }
 {
     let sets = SETS;

@@ -7,21 +7,22 @@ use native.Mathlib.Nat.{div-eq-of-lt, div-lt-iff-lt-mul, one-mul}
 use native.Mathlib.Numerals.{add-one}
 use native.Mathlib.Omega.{arith}
 use lib.ListN.{length}
-use lib.Pow.{pow-pos, pow-mono}
+use lib.Pow.{pow-pos}
 use Rattle.seek.specs.declared.Found.{Found}
 use Rattle.seek.specs.declared.Found.the-variants.{Boxes, Nothing}
-use Rattle.seek.specs.Answer.{has, Sought}
-use Rattle.seek_c.specs.Told.{Askable, Told}
+use Rattle.seek.specs.Answer.{setMarks, has, Askable, Sought}
+use Rattle.seek_c.specs.Told.{Told}
 
 -- nothing is left after a shift by n exactly if the number is below 2 ^ n
-pub shifted-out : (a n : ℕ) → a / 2 ^ n ≡ 0 → a < 2 ^ n
+shifted-out : (a n : ℕ) → a / 2 ^ n ≡ 0 → a < 2 ^ n
 shifted-out a n e = omega (arith, div-lt-iff-lt-mul {k = 2 ^ n} {x = a} {y = 1} (pow-pos n) .0 (omega (arith, e)), one-mul (2 ^ n))
 
 pub shifted-in : (a n : ℕ) → (a / 2 ^ n ≡ 0 → ⊥) → a < 2 ^ n → ⊥
 shifted-in a n h l = h (div-eq-of-lt l)
 
-pub two-le : (m : ℕ) → m ≤ 5 → 2 ^ m ≤ 32
-two-le m h = pow-mono h
+-- the three tests
+pub askable : (m need : ℕ) (area : List ℕ) {n : ℕ} → m ≤ setMarks → n ≡ 2 ^ m → n ≤ length area → need / 2 ^ n ≡ 0 → Askable m need area
+askable m need area h e l z = (h, rw e at (shifted-out need _ z), omega arith)
 
 module _ (m need room : ℕ) (before after : List ℕ) (may : Askable m need before) (f : Found) (s : Sought m (has need) (has room) f after) where
   pub told-boxes : (k : ℕ) → f ≡ Boxes k → Told m need room (k + 1) before after

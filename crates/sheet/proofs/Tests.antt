@@ -1,14 +1,14 @@
 -- The order of tests of each call: what is answered where the tests before have passed, and what the answer 0 tells.
 use Prim.Native.Nat.{ℕ, _+_, _*_, _-_, _^_, _<_, _≤_}
 use mathlib.Core.Path.{_≡_, sym, _∙_, ap}
-use mathlib.Core.Bool.{Bool, true, false, cond}
+use mathlib.Core.Bool.{Bool, true, false, cond, and-true}
 use mathlib.Core.List.{List}
 use native.Mathlib.Nat.{pow-le-pow-right, zero-mul}
 use native.Mathlib.Omega.{arith}
 use lib.Count.{ones-le}
 use lib.Dec.{eqb, leb}
 use borrow.Author.Tests.{le-leb, lt-leb, le-ltb, lt-ltb, leb-true}
-use Rattle.ground.proofs.Cases.{if, below-or, and-left, and-right, and-yes}
+use Rattle.ground.proofs.Cases.{if, below-or, and-left, and-right}
 use Rattle.boxes.specs.Boxes.{contains, freeCount, freeMarks}
 use Rattle.boxes.proofs.Choices.{freeMarks-lt, freeCount-ones}
 use Rattle.tables.specs.Tables.{entry, own, fitsShifted, fitsMoved, touched}
@@ -158,7 +158,7 @@ amount-bounds m true d t b l =
     let top : mostHeld + 0 * 2 ^ freeCount m b ≡ mostHeld = omega (arith, zero-mul (2 ^ freeCount m b)) in
     ap (leb (entry t b + d)) top
 amount-bounds m false d t b l =
-    rw (le-leb (entry t b - d) (mostKept + 0 * 2 ^ freeCount m b) (omega (arith, zero-mul (2 ^ freeCount m b)))) (and-yes (leb d (entry t b)))
+    rw (le-leb (entry t b - d) (mostKept + 0 * 2 ^ freeCount m b) (omega (arith, zero-mul (2 ^ freeCount m b)))) (and-true (leb d (entry t b)))
 
 pub top-small : (more : Bool) → cond more mostHeld mostKept < 2 ^ 33
 top-small true = omega arith

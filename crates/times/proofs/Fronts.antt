@@ -11,8 +11,8 @@ use lib.Seq.{append-snoc, split-at, take-suc, take-all, drop-at, length-take-le}
 use Rattle.times.specs.declared.Time.{Time}
 use Rattle.times.specs.declared.Time.the-variants.{Fault}
 use Rattle.times.specs.declared.Lead.the-variants.{Colon, Stop}
-use Rattle.times.specs.Texts.{Digit, Digits, number, Numeral, minutes, Behind, Readable}
-use Rattle.times.specs.Places.{Reads}
+use Rattle.times.specs.Texts.{Digit, Digits, digitsValue, Numeral, minutes, Behind, Readable}
+use Rattle.times.specs.Places.{ReadsAs}
 use Rattle.times.specs.Parts.{Follows, Led, colon, stop, moved}
 use Rattle.times.proofs.Places.{Open, ends, stops, handed}
 
@@ -26,15 +26,15 @@ unfolding Digits
 digits-at [] c b p = p .0
 digits-at (x ∷ a) c b p = digits-at a c b (p .1)
 
-number-append : (n : ℕ) (a b : List ℕ) → number n (a ++ b) ≡ number (number n a) b
-unfolding number
-number-append n [] b = refl
-number-append n (x ∷ a) b = number-append (n * 10 + (x - 48)) a b
+digitsValue-append : (n : ℕ) (a b : List ℕ) → digitsValue n (a ++ b) ≡ digitsValue (digitsValue n a) b
+unfolding digitsValue
+digitsValue-append n [] b = refl
+digitsValue-append n (x ∷ a) b = digitsValue-append (n * 10 + (x - 48)) a b
 
-number-ge : (n : ℕ) (l : List ℕ) → n ≤ number n l
-unfolding number
-number-ge n [] = omega arith
-number-ge n (x ∷ l) = omega (arith, number-ge (n * 10 + (x - 48)) l)
+digitsValue-ge : (n : ℕ) (l : List ℕ) → n ≤ digitsValue n l
+unfolding digitsValue
+digitsValue-ge n [] = omega arith
+digitsValue-ge n (x ∷ l) = omega (arith, digitsValue-ge (n * 10 + (x - 48)) l)
 
 -- digits up to a colon, against digits and a byte behind them
 meet : (a b : List ℕ) (c : ℕ) (x y : List ℕ) → Digits a → Digits b → a ++ 58 ∷ x ≡ b ++ c ∷ y
@@ -52,11 +52,11 @@ meet (d ∷ a) (f ∷ b) c x y p q e =
 pub record SoFar (b : List ℕ) (n : ℕ) : Type 0 where
   pub digits : Digits b
   pub plain : (rest : List ℕ) → b ≡ 48 ∷ rest → rest ≡ []
-  pub is : number 0 b ≡ n
+  pub is : digitsValue 0 b ≡ n
   pub small : n ≤ 599
 
 pub far-none : SoFar [] 0
-unfolding Digits number
+unfolding Digits digitsValue
 far-none = record { digits = tt; plain = λ rest e. let z = ap length e in absurd (omega arith); is = refl; small = omega arith }
 
 far-numeral : {b : List ℕ} {n : ℕ} → SoFar b n → 0 < length b → Numeral b n
@@ -66,43 +66,43 @@ far-of : {b : List ℕ} {n : ℕ} → Numeral b n → n ≤ 599 → SoFar b n
 far-of u h = record { digits = u .digits; plain = u .plain; is = u .is; small = h }
 
 -- digits that write 0 begin with `0`
-zero-first : (b : List ℕ) → Digits b → 0 < length b → number 0 b ≡ 0 → (t : List ℕ) × (b ≡ 48 ∷ t)
-unfolding Digits number
+zero-first : (b : List ℕ) → Digits b → 0 < length b → digitsValue 0 b ≡ 0 → (t : List ℕ) × (b ≡ 48 ∷ t)
+unfolding Digits digitsValue
 zero-first [] p h e = absurd (omega arith)
 zero-first (x ∷ t) p h e =
     let k = p .0 in
-    let q : x ≡ 48 = omega (arith, number-ge (0 * 10 + (x - 48)) t) in
+    let q : x ≡ 48 = omega (arith, digitsValue-ge (0 * 10 + (x - 48)) t) in
     (t, cc)
 
 -- a digit behind a numeral that is not `0` makes no leading zero
-more-plain : (a : List ℕ) (n c : ℕ) → ((rest : List ℕ) → a ≡ 48 ∷ rest → rest ≡ []) → number 0 a ≡ n → (0 < length a → 0 < n)
+more-plain : (a : List ℕ) (n c : ℕ) → ((rest : List ℕ) → a ≡ 48 ∷ rest → rest ≡ []) → digitsValue 0 a ≡ n → (0 < length a → 0 < n)
     → (rest : List ℕ) → a ++ c ∷ [] ≡ 48 ∷ rest → rest ≡ []
-unfolding number
+unfolding digitsValue
 more-plain [] n c pl is po rest e = cc
 more-plain (x ∷ t) n c pl is po rest e =
     let p : x ≡ 48 = cc in
     let q : t ≡ [] = pl t (ap (λ (y : ℕ). y ∷ t) p) in
-    let k : number (0 * 10 + (x - 48)) [] ≡ n = ap (number (0 * 10 + (x - 48))) (sym q) ∙ is in
+    let k : digitsValue (0 * 10 + (x - 48)) [] ≡ n = ap (digitsValue (0 * 10 + (x - 48))) (sym q) ∙ is in
     absurd (omega (arith, k, po (omega arith)))
 
 pub numeral-digit : (c : ℕ) → Digit c → Numeral (c ∷ []) (c - 48)
-unfolding Digits number
+unfolding Digits digitsValue
 numeral-digit c d = record { some = omega arith; digits = (d, tt); plain = λ rest e. cc; is = omega arith }
 
 pub numeral-more : (b : List ℕ) (n c : ℕ) → Numeral b n → Digit c → 0 < n → Numeral (b ++ c ∷ []) (n * 10 + (c - 48))
-unfolding Digits number
+unfolding Digits digitsValue
 numeral-more b n c u d h =
     record {
       some = omega (arith, length-append b (c ∷ []));
       digits = digits-append b (c ∷ []) (u .digits) (d, tt);
       plain = more-plain b n c (u .plain) (u .is) (λ z. h);
-      is = number-append 0 b (c ∷ []) ∙ ap (λ (x : ℕ). x * 10 + (c - 48)) (u .is);
+      is = digitsValue-append 0 b (c ∷ []) ∙ ap (λ (x : ℕ). x * 10 + (c - 48)) (u .is);
     }
 
 -- how a readable text may go on behind b
-data Next (b : List ℕ) (n c : ℕ) (z : List ℕ) (v : ℕ) : Type 0 where
-  ended : c ≡ 58 → 0 < length b → Behind n z v → Next b n c z v
-  longer : Follows (length b) n c → Next b n c z v
+data GoesOn (b : List ℕ) (n c : ℕ) (z : List ℕ) (v : ℕ) : Type 0 where
+  ended : c ≡ 58 → 0 < length b → Behind n z v → GoesOn b n c z v
+  longer : Follows (length b) n c → GoesOn b n c z v
 
 pub noughts : (n : ℕ) → Behind n (48 ∷ 48 ∷ []) (n * 60 + 0)
 noughts n =
@@ -123,21 +123,21 @@ module _ (b : List ℕ) (n : ℕ) (f : SoFar b n) where
       (λ (z : 0 < n). z)
       (eq-zero-or-pos n)
 
-  next : (c : ℕ) (z : List ℕ) (v : ℕ) → Readable (b ++ c ∷ z) v → Next b n c z v
-  unfolding number
+  next : (c : ℕ) (z : List ℕ) (v : ℕ) → Readable (b ++ c ∷ z) v → GoesOn b n c z v
+  unfolding digitsValue
   next c z v r =
       ⊎-elim
       (λ w.
-      let k : r .n ≡ n = sym (r .numeral .is) ∙ ap (number 0) (w .0) ∙ f .is in
+      let k : r .n ≡ n = sym (r .numeral .is) ∙ ap (digitsValue 0) (w .0) ∙ f .is in
       let y = ap length (w .0) in
       ended (w .1) (omega (arith, y, r .numeral .some)) (subst (λ (x : List ℕ). Behind n x v) (w .2) (subst (λ (x : ℕ). Behind x (r .rest) v) k (r .behind))))
       (λ w. far (w .0) (w .1))
       (meet (r .first) b c (r .rest) z (r .numeral .digits) (f .digits) (sym (append-snoc (r .first) 58 (r .rest)) ∙ sym (r .text)))
     where
-      far : (more : List ℕ) → r .first ≡ b ++ c ∷ more → Next b n c z v
+      far : (more : List ℕ) → r .first ≡ b ++ c ∷ more → GoesOn b n c z v
       far more e =
-          let q : r .n ≡ number (number 0 b * 10 + (c - 48)) more = sym (r .numeral .is) ∙ ap (number 0) e ∙ number-append 0 b (c ∷ more) in
-          let g = number-ge (number 0 b * 10 + (c - 48)) more in
+          let q : r .n ≡ digitsValue (digitsValue 0 b * 10 + (c - 48)) more = sym (r .numeral .is) ∙ ap (digitsValue 0) e ∙ digitsValue-append 0 b (c ∷ more) in
+          let g = digitsValue-ge (digitsValue 0 b * 10 + (c - 48)) more in
           longer (record {
             digit = digits-at b c more (subst Digits e (r .numeral .digits));
             plain = more-positive (r .first) (r .n) c more (r .numeral) e;
@@ -145,12 +145,12 @@ module _ (b : List ℕ) (n : ℕ) (f : SoFar b n) where
           })
 
   far-more : (c : ℕ) → Follows (length b) n c → SoFar (b ++ c ∷ []) (n * 10 + (c - 48))
-  unfolding Digits number
+  unfolding Digits digitsValue
   far-more c w =
       record {
         digits = digits-append b (c ∷ []) (f .digits) (w .digit, tt);
         plain = more-plain b n c (f .plain) (f .is) (w .plain);
-        is = number-append 0 b (c ∷ []) ∙ ap (λ (x : ℕ). x * 10 + (c - 48)) (f .is);
+        is = digitsValue-append 0 b (c ∷ []) ∙ ap (λ (x : ℕ). x * 10 + (c - 48)) (f .is);
         small = w .small;
       }
 
@@ -161,18 +161,18 @@ module _ (b : List ℕ) (n : ℕ) (f : SoFar b n) where
       go [] g = (48 ∷ 58 ∷ 48 ∷ 48 ∷ [], 0, readable (48 ∷ []) 0 (48 ∷ 48 ∷ []) 0 (numeral-digit 48 (omega arith, omega arith)) (omega arith) (noughts 0))
       go (x ∷ t) g = (58 ∷ 48 ∷ 48 ∷ [], n * 60 + 0, readable (x ∷ t) n (48 ∷ 48 ∷ []) (n * 60 + 0) (far-numeral g (omega arith)) (g .small) (noughts n))
 
--- at the place i of the text t, with the number n read so far
+-- at the place i of the text t, with the digitsValue n read so far
 module _ (t : List ℕ) (i n : ℕ) (f : SoFar (take i t) n) where
   pub stop-at : i < length t → (getD t i 0 ≡ 58 → 0 < i → ⊥) → (Follows i n (getD t i 0) → ⊥) → Led t (Stop i)
   stop-at l no-colon no-digit =
-      stop (subst (λ (u : List ℕ). Reads Readable u (Fault i)) (sym (split-at t i 0 l))
-      (subst (λ (k : ℕ). Reads Readable (take i t ++ getD t i 0 ∷ drop (suc i) t) (Fault k)) len
+      stop (subst (λ (u : List ℕ). ReadsAs Readable u (Fault i)) (sym (split-at t i 0 l))
+      (subst (λ (k : ℕ). ReadsAs Readable (take i t ++ getD t i 0 ∷ drop (suc i) t) (Fault k)) len
       (stops Readable (take i t) (far-open (take i t) n f) (getD t i 0) (drop (suc i) t) (λ z v r. go z v (next (take i t) n f (getD t i 0) z v r)))))
     where
       len : length (take i t) ≡ i
       len = length-take-le i t (omega arith)
 
-      go : (z : List ℕ) (v : ℕ) → Next (take i t) n (getD t i 0) z v → ⊥
+      go : (z : List ℕ) (v : ℕ) → GoesOn (take i t) n (getD t i 0) z v → ⊥
       go z v (ended e h q) = no-colon e (omega (arith, len))
       go z v (longer w) = no-digit (subst (λ (k : ℕ). Follows k n (getD t i 0)) len w)
 
@@ -187,7 +187,7 @@ module _ (t : List ℕ) (i n : ℕ) (f : SoFar (take i t) n) where
   end-at h =
       let e = take-all i t (omega arith) in
       let g : SoFar t n = subst (λ (u : List ℕ). SoFar u n) e f in
-      stop (subst (λ (k : ℕ). Reads Readable t (Fault k)) h
+      stop (subst (λ (k : ℕ). ReadsAs Readable t (Fault k)) h
       (ends Readable t (far-open t n g)
       (λ v r. let d = digits-at (r .first) 58 (r .rest) (subst Digits (r .text ∙ append-snoc (r .first) 58 (r .rest)) (g .digits)) in omega arith)))
 
@@ -201,25 +201,25 @@ module _ (b : List ℕ) (n : ℕ) (u : Numeral b n) (h : n ≤ 599) where
   pub from-colon : (s : List ℕ) (v : ℕ) → Readable ((b ++ 58 ∷ []) ++ s) v → Behind n s v
   from-colon s v r = go (next b n (far-of u h) 58 s v (subst (λ (x : List ℕ). Readable x v) (append-snoc b 58 s) r))
     where
-      go : Next b n 58 s v → Behind n s v
+      go : GoesOn b n 58 s v → Behind n s v
       go (ended e k q) = q
       go (longer w) = let d = w .digit in absurd (omega arith)
 
   to-colon : (s : List ℕ) (v : ℕ) → Behind n s v → Readable ((b ++ 58 ∷ []) ++ s) v
   to-colon s v k = subst (λ (x : List ℕ). Readable x v) (sym (append-snoc b 58 s)) (readable b n s v u h k)
 
-pub led-stop : {t : List ℕ} {p : ℕ} → Led t (Stop p) → Reads Readable t (Fault p)
+pub led-stop : {t : List ℕ} {p : ℕ} → Led t (Stop p) → ReadsAs Readable t (Fault p)
 led-stop (stop k) = k
 
 pub led-small : {t : List ℕ} {n k : ℕ} → Led t (Colon n k) → (n ≤ 599) × (k ≤ length t)
 led-small (colon b z e u h q) = (h, omega (arith, q, ap length e, length-append (b ++ 58 ∷ []) z, length-append b (58 ∷ [])))
 
 -- the part behind the colon is handed on
-pub led-on : (t : List ℕ) (n k : ℕ) {r : Time} → Led t (Colon n k) → Reads (Behind n) (drop k t) r → Reads Readable t (moved k r)
+pub led-on : (t : List ℕ) (n k : ℕ) {r : Time} → Led t (Colon n k) → ReadsAs (Behind n) (drop k t) r → ReadsAs Readable t (moved k r)
 led-on t n k {r} (colon b z e u h q) x =
     let len : length (b ++ 58 ∷ []) ≡ k = length-append b (58 ∷ []) ∙ sym q in
     let d : drop k t ≡ z = ap (drop k) e ∙ drop-at (b ++ 58 ∷ []) z k len in
-    subst (λ (y : List ℕ). Reads Readable y (moved k r)) (sym e)
-    (subst (λ (j : ℕ). Reads Readable ((b ++ 58 ∷ []) ++ z) (moved j r)) len
+    subst (λ (y : List ℕ). ReadsAs Readable y (moved k r)) (sym e)
+    (subst (λ (j : ℕ). ReadsAs Readable ((b ++ 58 ∷ []) ++ z) (moved j r)) len
     (handed Readable (Behind n) (b ++ 58 ∷ []) (to-colon b n u h) (from-colon b n u h)
-    (subst (λ (y : List ℕ). Reads (Behind n) y r) d x)))
+    (subst (λ (y : List ℕ). ReadsAs (Behind n) y r) d x)))

@@ -1,32 +1,14 @@
--- The texts of 01 ('Known sheets') that are shown of the definitions: one table, one statement.
+-- Each text of the table is followed byte by byte: its digits so far, its colon, what stands behind.
 use Prim.Native.Nat.{ℕ, _+_, _-_, _*_, _≤_}
 use mathlib.Core.Path.{refl}
 use mathlib.Core.List.{List, [], _∷_}
 use native.Mathlib.Omega.{arith}
-use Rattle.times.specs.declared.Time.{Time}
-use Rattle.times.specs.declared.Time.the-variants.{Value, Fault}
 use Rattle.ground.specs.Texts.{ascii}
-use Rattle.times.specs.Texts.{minutes, Numeral, Readable}
-use Rattle.times.specs.Places.{Reads, value}
+use Rattle.times.specs.Texts.{minutes, Numeral}
+use Rattle.times.specs.Known.{table, Shown}
+use Rattle.times.specs.Places.{value}
 use Rattle.times.proofs.Behinds.{behind-one}
 use Rattle.times.proofs.Fronts.{SoFar, far-none, far-step, stop-at, colon-at, led-stop, led-on, numeral-digit, numeral-more, readable, noughts}
-
-pub record Row : Type 0 where
-  pub text : List ℕ
-  pub time : Time
-
-pub rows : List Row
-rows =
-    record { text = ascii "0:00"; time = Value 0 }
-    ∷ record { text = ascii "599:59"; time = Value 35999 }
-    ∷ record { text = ascii "600:00"; time = Fault 2 }
-    ∷ record { text = ascii "12:3"; time = Fault 4 }
-    ∷ []
-
--- each text reads so, and by `read-settled` in no other way
-pub All : List Row → Type 0
-All [] = Unit {0}
-All (r ∷ l) = Reads Readable (r .text) (r .time) × All l
 
 -- the digits of two bytes at the front of a text
 two : (a b : ℕ) (z : List ℕ) → (49 ≤ a) × (a ≤ 57) → (48 ≤ b) × (b ≤ 57) → SoFar (a ∷ b ∷ []) ((0 * 10 + (a - 48)) * 10 + (b - 48))
@@ -42,8 +24,9 @@ nines =
     (numeral-more (ascii "5") 5 57 (numeral-digit 53 (omega arith, omega arith)) (omega arith, omega arith) (omega arith))
     (omega arith, omega arith) (omega arith)
 
-pub known : All rows
-unfolding rows All
+-- THE KNOWN TIMES
+pub known : Shown table
+unfolding table Shown
 known = (
   value (readable (ascii "0") 0 (ascii "00") 0 (numeral-digit 48 (omega arith, omega arith)) (omega arith) (noughts 0)),
   (

@@ -1,7 +1,6 @@
 -- Laws of places, for any readable texts L: no two answers are right; a text that ends or goes wrong behind a common beginning; a part that is handed on.
 use Prim.Native.Nat.{ℕ, _+_, _-_, _≤_}
 use mathlib.Core.Path.{_≡_, refl, sym, ap, _∙_, subst}
-use mathlib.Core.Bool.{Bool, true, false, true≢false}
 use mathlib.Core.List.{List, [], _∷_, _++_, append-assoc, append-nil}
 use mathlib.Core.Logic.{_⊎_, inl, inr, ⊎-elim}
 use native.Mathlib.Nat.{add-zero}
@@ -10,16 +9,8 @@ use lib.ListN.{length, take, drop, length-append, length-drop}
 use lib.Seq.{take-all}
 use Rattle.times.specs.declared.Time.{Time}
 use Rattle.times.specs.declared.Time.the-variants.{Value, Fault}
-use Rattle.times.specs.Places.{Common, Place, Reads, value, fault}
-use Rattle.times.specs.Parts.{Tests, yes, no, placeOf, moved}
-
-pub tests-yes : {P : Type 0} {r : Bool} → Tests P r → r ≡ true → P
-tests-yes (yes p) e = p
-tests-yes (no n) e = absurd (true≢false (sym e))
-
-pub tests-no : {P : Type 0} {r : Bool} → Tests P r → r ≡ false → P → ⊥
-tests-no (yes p) e q = true≢false e
-tests-no (no n) e q = n q
+use Rattle.times.specs.Places.{Common, Place, ReadsAs, value, fault}
+use Rattle.times.specs.Parts.{placeOf, moved}
 
 module _ (L : List ℕ → ℕ → Type 0) where
   -- some readable text begins so
@@ -30,20 +21,20 @@ module _ (L : List ℕ → ℕ → Type 0) where
   same-place x y = omega (arith, x .size, y .size, x .longest (y .best) (y .common), y .longest (x .best) (x .common))
 
   -- no two answers are right, where a text has one number
-  pub settled : {t : List ℕ} {r q : Time} → ((v w : ℕ) → L t v → L t w → v ≡ w) → Reads L t r → Reads L t q → r ≡ q
+  pub settled : {t : List ℕ} {r q : Time} → ((v w : ℕ) → L t v → L t w → v ≡ w) → ReadsAs L t r → ReadsAs L t q → r ≡ q
   settled f (value a) (value b) = ap Value (f _ _ a b)
   settled f (value a) (fault n p) = absurd (n _ a)
   settled f (fault n p) (value a) = absurd (n _ a)
   settled f (fault n p) (fault m q) = ap Fault (same-place p q)
 
   -- the place lies in the text
-  pub place-le : {t : List ℕ} {r : Time} → Reads L t r → placeOf r ≤ length t
+  pub place-le : {t : List ℕ} {r : Time} → ReadsAs L t r → placeOf r ≤ length t
   place-le (value k) = omega arith
   place-le (fault n x) = omega (arith, x .size, ap length (x .common .of-text .1), length-append (x .best) (x .common .of-text .0))
 
   -- a part that is lent to the end of the text
-  pub lent-part : (t : List ℕ) (k : ℕ) {r : Time} → Reads L (take (length t - k) (drop k t)) r → Reads L (drop k t) r
-  lent-part t k {r} x = subst (λ (u : List ℕ). Reads L u r) (take-all (length t - k) (drop k t) (omega (arith, length-drop k t))) x
+  pub lent-part : (t : List ℕ) (k : ℕ) {r : Time} → ReadsAs L (take (length t - k) (drop k t)) r → ReadsAs L (drop k t) r
+  lent-part t k {r} x = subst (λ (u : List ℕ). ReadsAs L u r) (take-all (length t - k) (drop k t) (omega (arith, length-drop k t))) x
 
   -- no text has more than nothing in common
   nothing-common : (t : List ℕ) → Open [] → ((c : ℕ) (a : List ℕ) → Common L t (c ∷ a) → ⊥) → Place L t 0
@@ -102,7 +93,7 @@ module _ (L K : List ℕ → ℕ → Type 0) (f : List ℕ) (to : (s : List ℕ)
       }
 
   -- the part behind f is handed on
-  pub handed : {s : List ℕ} {r : Time} → Reads K s r → Reads L (f ++ s) (moved (length f) r)
+  pub handed : {s : List ℕ} {r : Time} → ReadsAs K s r → ReadsAs L (f ++ s) (moved (length f) r)
   handed {s} (value {v} k) = value (to s v k)
   handed {s} (fault n p) = fault (λ v l. n v (from s v l)) (place-behind p)
 
@@ -110,19 +101,19 @@ module _ (L : List ℕ → ℕ → Type 0) (f : List ℕ) (o : Open L f) where
   abbrev Rest : List ℕ → ℕ → Type 0
   Rest s v = L (f ++ s) v
 
-  front : {s : List ℕ} → Reads Rest s (Fault 0) → Reads L (f ++ s) (Fault (length f))
+  front : {s : List ℕ} → ReadsAs Rest s (Fault 0) → ReadsAs L (f ++ s) (Fault (length f))
   front {s} x =
-      subst (λ (n : ℕ). Reads L (f ++ s) (Fault n)) (add-zero (length f)) (handed L Rest f (λ u v k. k) (λ u v k. k) x)
+      subst (λ (n : ℕ). ReadsAs L (f ++ s) (Fault n)) (add-zero (length f)) (handed L Rest f (λ u v k. k) (λ u v k. k) x)
 
   -- the text ends behind f, and is not readable
-  pub ends : ((v : ℕ) → L f v → ⊥) → Reads L f (Fault (length f))
+  pub ends : ((v : ℕ) → L f v → ⊥) → ReadsAs L f (Fault (length f))
   ends n =
-      subst (λ (u : List ℕ). Reads L u (Fault (length f))) (append-nil f)
+      subst (λ (u : List ℕ). ReadsAs L u (Fault (length f))) (append-nil f)
       (front (fault (λ v l. n v (subst (λ (u : List ℕ). L u v) (append-nil f) l))
       (nothing-common Rest [] o (λ c a k. let z = ap length (k .of-text .1) in omega arith))))
 
   -- no readable text goes on by c behind f
-  pub stops : (c : ℕ) (y : List ℕ) → ((z : List ℕ) (v : ℕ) → L (f ++ c ∷ z) v → ⊥) → Reads L (f ++ c ∷ y) (Fault (length f))
+  pub stops : (c : ℕ) (y : List ℕ) → ((z : List ℕ) (v : ℕ) → L (f ++ c ∷ z) v → ⊥) → ReadsAs L (f ++ c ∷ y) (Fault (length f))
   stops c y n = front (fault (λ v l. n y v l) (nothing-common Rest (c ∷ y) o go))
     where
       go : (d : ℕ) (a : List ℕ) → Common Rest (c ∷ y) (d ∷ a) → ⊥

@@ -6,7 +6,7 @@ use native.Mathlib.Omega.{arith}
 use Rattle.times.specs.declared.Time.{Time}
 use Rattle.times.specs.declared.Reading.{Reading}
 use Rattle.times.specs.Texts.{After, minutes, Behind, Readable}
-use Rattle.times.specs.Places.{Reads}
+use Rattle.times.specs.Places.{ReadsAs}
 use Rattle.times.specs.Answers.{readingOf, Answered}
 use Rattle.times.proofs.Places.{settled}
 use Rattle.times.proofs.Fronts.{from-colon}
@@ -25,12 +25,12 @@ one-behind {n} {z} {v} {w} p q =
     (subst (λ (u : List ℕ). After n (q .tens * 10 + q .ones) u v) r (subst (λ (y : ℕ). After n y (p .rest) v) x (p .after)))
     (q .after)
 
-one-value : (t : List ℕ) (v w : ℕ) → Readable t v → Readable t w → v ≡ w
+pub one-value : (t : List ℕ) (v w : ℕ) → Readable t v → Readable t w → v ≡ w
 one-value t v w p q =
     one-behind (p .behind)
     (from-colon (p .first) (p .n) (p .numeral) (p .small) (p .rest) w (subst (λ (x : List ℕ). Readable x w) (p .text) q))
 
-pub read-settled : {t : List ℕ} {r q : Time} → Reads Readable t r → Reads Readable t q → r ≡ q
+pub read-settled : {t : List ℕ} {r q : Time} → ReadsAs Readable t r → ReadsAs Readable t q → r ≡ q
 read-settled {t} x y = settled Readable (one-value t) x y
 
 pub answer-settled : {t : List ℕ} {r q : Reading} → Answered t r → Answered t q → r ≡ q

@@ -4,7 +4,7 @@ use mathlib.Core.Path.{_≡_, refl, ap, _∙_}
 use mathlib.Core.List.{List, [], _∷_, _++_}
 use native.Mathlib.Omega.{arith}
 use Rattle.ground.specs.Texts.{ascii}
-use Rattle.times.specs.Texts.{Numeral, After, minutes, Behind, Readable}
+use Rattle.times.specs.Texts.{Numeral, After, minutes, Readable}
 
 -- minutes 0 to 599 without a leading zero, and seconds 00 to 59
 pub record Spelled (t : List ℕ) (v : ℕ) : Type 0 where

@@ -1,4 +1,5 @@
 pub mod Texts
 pub mod Places
 pub mod Answers
+pub mod Known
 pub mod Parts

@@ -1,7 +1,6 @@
 -- What the functions of the reader tell each other.
 use Prim.Native.Nat.{ℕ, _+_, _-_, _*_, _≤_, _<_}
 use mathlib.Core.Path.{_≡_}
-use mathlib.Core.Bool.{Bool, true, false}
 use mathlib.Core.List.{List, _++_}
 use lib.ListN.{length}
 use Rattle.times.specs.declared.Time.{Time}
@@ -10,12 +9,7 @@ use Rattle.times.specs.declared.Lead.{Lead}
 use Rattle.times.specs.declared.Lead.the-variants.{Colon, Stop}
 use Rattle.ground.specs.Texts.{ascii}
 use Rattle.times.specs.Texts.{Digit, Numeral, Readable}
-use Rattle.times.specs.Places.{Reads}
-
--- a test of P
-pub data Tests (P : Type 0) : Bool → Type 0 where
-  yes : P → Tests P true
-  no : (P → ⊥) → Tests P false
+use Rattle.times.specs.Places.{ReadsAs}
 
 -- the digit c may follow i digits that write n: no leading zero, and 599 at most
 pub record Follows (i n c : ℕ) : Type 0 where
@@ -26,7 +20,7 @@ pub record Follows (i n c : ℕ) : Type 0 where
 -- the number in front of the colon and the length up to and with the colon, or the place of the whole text
 pub data Led (t : List ℕ) : Lead → Type 0 where
   colon : {n k : ℕ} (first rest : List ℕ) → t ≡ first ++ ascii ":" ++ rest → Numeral first n → n ≤ 599 → k ≡ length first + 1 → Led t (Colon n k)
-  stop : {p : ℕ} → Reads Readable t (Fault p) → Led t (Stop p)
+  stop : {p : ℕ} → ReadsAs Readable t (Fault p) → Led t (Stop p)
 
 -- the place of a fault, 0 for a value
 abbrev pub placeOf : Time → ℕ

@@ -23,6 +23,6 @@ pub record Place (L : List ℕ → ℕ → Type 0) (t : List ℕ) (p : ℕ) : Ty
   pub longest : (a : List ℕ) → Common L t a → length a ≤ p
 
 -- what reading t gives: its value, where t is readable, and else the place
-pub data Reads (L : List ℕ → ℕ → Type 0) (t : List ℕ) : Time → Type 0 where
-  value : {v : ℕ} → L t v → Reads L t (Value v)
-  fault : {p : ℕ} → ((v : ℕ) → L t v → ⊥) → Place L t p → Reads L t (Fault p)
+pub data ReadsAs (L : List ℕ → ℕ → Type 0) (t : List ℕ) : Time → Type 0 where
+  value : {v : ℕ} → L t v → ReadsAs L t (Value v)
+  fault : {p : ℕ} → ((v : ℕ) → L t v → ⊥) → Place L t p → ReadsAs L t (Fault p)

@@ -14,16 +14,16 @@ Digits [] = Unit {0}
 Digits (c ∷ l) = Digit c × Digits l
 
 -- the number that the digits of l write behind those of n
-unfoldable pub number : ℕ → List ℕ → ℕ
-number n [] = n
-number n (c ∷ l) = number (n * 10 + (c - 48)) l
+unfoldable pub digitsValue : ℕ → List ℕ → ℕ
+digitsValue n [] = n
+digitsValue n (c ∷ l) = digitsValue (n * 10 + (c - 48)) l
 
--- l writes the number n, without a leading zero except `0` itself
+-- l writes the digitsValue n, without a leading zero except `0` itself
 pub record Numeral (l : List ℕ) (n : ℕ) : Type 0 where
   pub some : 0 < length l
   pub digits : Digits l
   pub plain : (rest : List ℕ) → l ≡ 48 ∷ rest → rest ≡ []
-  pub is : number 0 l ≡ n
+  pub is : digitsValue 0 l ≡ n
 
 -- What may stand behind `N:XX`, and the seconds that it all makes: nothing, where N is minutes and XX seconds.
 pub data After (n x : ℕ) : List ℕ → ℕ → Type 0 where

@@ -2,10 +2,11 @@
 // own set of readable texts and with the same promise: the value, or the place of the fault.
 ghost use mathlib.Core.Path.{_≡_};
 ghost use Prim.Native.Nat.{_+_, _-_, _*_, _^_, _≤_, _<_};
+ghost use Rattle.ground.specs.Decides.{Decides};
 ghost use Rattle.times.specs.Texts.{After, Behind, Readable};
-ghost use Rattle.times.specs.Places.{Reads};
+ghost use Rattle.times.specs.Places.{ReadsAs};
 ghost use Rattle.times.specs.Answers.{Answered};
-ghost use Rattle.times.specs.Parts.{Tests, Follows, Led, placeOf, moved};
+ghost use Rattle.times.specs.Parts.{Follows, Led, placeOf, moved};
 
 // The seconds, or the place: the length of the longest beginning that is also the beginning of some readable text.
 pub enum Time {
@@ -28,7 +29,7 @@ pub enum Lead {
 
 // Whether c is a digit up to top.
 fn digit(c: u8, top: u8) -> bool
-    ensures { λ r. ⌜ Tests ((48 ≤ c) × (c ≤ top)) r ⌝ }
+    ensures { λ r. ⌜ Decides r ((48 ≤ c) × (c ≤ top)) ⌝ }
 {
     if c < 48 {
         return false;
@@ -50,7 +51,7 @@ fn grown(n: u64, c: u8) -> u64
 // Whether c may follow i digits that write n.
 fn follows(i: usize, n: u64, c: u8) -> bool
     requires { ⌜ n ≤ 599 ⌝ }
-    ensures { λ r. ⌜ Tests (Follows i n c) r ⌝ }
+    ensures { λ r. ⌜ Decides r (Follows i n c) ⌝ }
 {
     if !digit(c, 57) {
         return false;
@@ -87,6 +88,7 @@ fn before_colon(text: &[u8]) -> Lead
     Lead::Stop(i)
 }
 
+// The place of a fault, 0 for a value.
 fn place_of(t: Time) -> usize
     ensures { λ r. ⌜ r ≡ placeOf t ⌝ }
 {
@@ -110,7 +112,7 @@ fn moved(k: usize, t: Time) -> Time
 // What stands behind the two digits.
 fn after(part: &[u8], n: u64, x: u64) -> Time
     requires { ⌜ (n ≤ 599) × (x ≤ 59) ⌝ }
-    ensures { λ r. ⌜ Reads (After n x) (now (part .entry)) r ⌝ }
+    ensures { λ r. ⌜ ReadsAs (After n x) (now (part .entry)) r ⌝ }
 {
     if part.len() == 0 {
         return Time::Value(n * 60 + x);
@@ -121,7 +123,7 @@ fn after(part: &[u8], n: u64, x: u64) -> Time
 // The two digits behind the colon, and what follows them.
 fn behind_colon(part: &[u8], n: u64) -> Time
     requires { ⌜ n ≤ 599 ⌝ }
-    ensures { λ r. ⌜ Reads (Behind n) (now (part .entry)) r ⌝ }
+    ensures { λ r. ⌜ ReadsAs (Behind n) (now (part .entry)) r ⌝ }
 {
     if part.len() == 0 {
         return Time::Fault(0);
@@ -141,9 +143,9 @@ fn behind_colon(part: &[u8], n: u64) -> Time
     moved(2, after(&part[2..], n, x))
 }
 
-// Reads any text.
+// ReadsAs any text.
 pub fn read(text: &[u8]) -> Time
-    ensures { λ r. ⌜ Reads Readable (now (text .entry)) r ⌝ }
+    ensures { λ r. ⌜ ReadsAs Readable (now (text .entry)) r ⌝ }
 {
     let lead = before_colon(text);
     match lead {

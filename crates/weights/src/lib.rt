@@ -48,6 +48,7 @@ fn less_at(x: &mut [f64], at: usize, d: &[f64], from: usize, t: f64)
     }
 }
 
+// t times d is taken from x.
 fn less(x: &mut [f64; 32], d: &[f64; 32], t: f64) {
     less_at(x, 0, d, 0, t);
 }
@@ -97,7 +98,7 @@ fn weigh_singles(singles: &[usize; 32], y: &[f64; 32], v: &mut [f64; 243]) {
     }
 }
 
-// What a box weighs: both its halves, where it has a free mark.
+// What a box weighs: both its halves, where it has a free mark (boxes `sumIn-halves`).
 fn weigh(v: &mut [f64; 243], b: usize, low: usize) -> f64
     requires { ⌜ b < 243 ⌝ }
 {

@@ -10,17 +10,8 @@ use Rattle.boxes.proofs.Boxes.{contains-nothing}
 use Rattle.boxes.proofs.contains.Statement.{statement}
 use Rattle.boxes.proofs.contains.Tie as tie
 
-power3-requires : tie.Need-power3-requires
-power3-requires c κs = search needs
-
 returns : tie.Need-returns
 returns c = sym (contains-nothing _ _ _ (omega (arith, c .before .power3 .ensures .0, c .if1 .taken)))
-
-digits-of-requires : tie.Need-digits-of-requires
-digits-of-requires c κs = search needs
-
-agrees-requires : tie.Need-agrees-requires
-agrees-requires c κs = search needs
 
 returns-2 : tie.Need-returns-2
 returns-2 c =
@@ -31,5 +22,5 @@ returns-2 c =
     ∙ contains-masked (a .m) 64 (a .b) (a .c) (omega arith) (omega arith) (omega arith)
 
 pub contains-spec : {M : Type 1} → statement M
-contains-spec =
-    tie.close (tie.spec power3-requires returns digits-of-requires agrees-requires returns-2)
+contains-spec = tie.close (tie.spec
+    (λ c κs. search needs) returns (λ c κs. search needs) (λ c κs. search needs) returns-2)

@@ -15,17 +15,8 @@ Inv-loop m p₀ i₀ p i = (i ≤ m) × (p ≡ 3 ^ i)
 abbrev μ-loop : tie.MeasureT-loop
 μ-loop m p₀ i₀ p i = m - i
 
-loop-holds : tie.Need-loop-holds Inv-loop μ-loop
-loop-holds c = omega arith
-
 mul-p : tie.Need-mul-p Inv-loop μ-loop
 mul-p c = omega (arith, pow-le-pow-right {n = 3} (omega arith) {i = c .before .loop .i} {j = 8} (omega arith))
-
-add-i : tie.Need-add-i Inv-loop μ-loop
-add-i c = omega arith
-
-loop-less : tie.Need-loop-less Inv-loop μ-loop
-loop-less c = omega arith
 
 loop-again : tie.Need-loop-again Inv-loop μ-loop
 loop-again c = omega (arith, power-next 3 (c .before .loop .i))
@@ -39,5 +30,5 @@ returns c =
     (p, omega (arith, pow-le-pow-right {n = 3} (omega arith) {i = m} {j = 8} (omega arith)))
 
 pub power3-spec : {M : Type 1} → statement M
-power3-spec =
-    tie.close (tie.spec Inv-loop μ-loop loop-holds mul-p add-i loop-less loop-again returns)
+power3-spec = tie.close (tie.spec
+    Inv-loop μ-loop (λ c. omega arith) mul-p (λ c. omega arith) (λ c. omega arith) loop-again returns)

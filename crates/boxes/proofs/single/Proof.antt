@@ -25,26 +25,11 @@ small c =
 loop-holds : tie.Need-loop-holds Inv-loop μ-loop
 loop-holds c = (omega arith, single-none _ _)
 
-sub-k : tie.Need-sub-k Inv-loop μ-loop
-sub-k c = search needs
-
-sub-k-2 : tie.Need-sub-k-2 Inv-loop μ-loop
-sub-k-2 c = search needs
-
 mul-b : tie.Need-mul-b Inv-loop μ-loop
 mul-b c = omega (arith, small c)
 
-mark-requires : tie.Need-mark-requires Inv-loop μ-loop
-mark-requires c κs = search needs
-
 add-b : tie.Need-add-b Inv-loop μ-loop
 add-b c = omega (arith, small (c .before))
-
-add-i : tie.Need-add-i Inv-loop μ-loop
-add-i c = search needs
-
-loop-less : tie.Need-loop-less Inv-loop μ-loop
-loop-less c = search needs
 
 loop-again : tie.Need-loop-again Inv-loop μ-loop
 loop-again c =
@@ -60,18 +45,6 @@ returns c =
     (b, subst (λ (n : ℕ). n < 3 ^ a .m) (sym b) (through-lt (a .m) (a .c) 0))
 
 pub single-spec : {M : Type 1} → statement M
-single-spec =
-    tie.close
-    (tie.spec
-    Inv-loop
-    μ-loop
-    loop-holds
-    sub-k
-    sub-k-2
-    mul-b
-    mark-requires
-    add-b
-    add-i
-    loop-less
-    loop-again
-    returns)
+single-spec = tie.close (tie.spec
+    Inv-loop μ-loop loop-holds (λ c. search needs) (λ c. search needs) mul-b (λ c κs. search needs) add-b
+    (λ c. search needs) (λ c. search needs) loop-again returns)

@@ -18,17 +18,8 @@ abbrev μ-loop : tie.MeasureT-loop
 loop-holds : tie.Need-loop-holds Inv-loop μ-loop
 loop-holds c = (omega arith, refl, wrote-none _ _)
 
-shared-slice-read-put-byte : tie.Need-shared-slice-read-put-byte Inv-loop μ-loop
-shared-slice-read-put-byte c = omega arith
-
 put-byte-requires : tie.Need-put-byte-requires Inv-loop μ-loop
 put-byte-requires c κs = let l = c .before .before .before .loop in omega (arith, l .inv .1, l .inv .2 .place, length-take-le (l .i) (c .before .before .before .before .before .before .args .text .now) (l .inv .0), c .before .before .before .before .before .before .pre)
-
-add-i : tie.Need-add-i Inv-loop μ-loop
-add-i c = omega arith
-
-loop-less : tie.Need-loop-less Inv-loop μ-loop
-loop-less c = omega arith
 
 loop-again : tie.Need-loop-again Inv-loop μ-loop
 loop-again c = let l = c .before .before .before .before .before .before .loop in (omega arith, c .before .before .put-byte .kept .0 ∙ l .inv .1, wrote-more _ (l .i) (l .inv .2) (c .before .before .put-byte .ensures) (omega arith) (c .before .before .before .before .before .before .before .before .before .pre))
@@ -40,16 +31,6 @@ returns : tie.Need-returns Inv-loop μ-loop
 returns c = let l = c .before .loop in wrote-text (take-all (l .i) (c .before .before .before .before .args .text .now) (omega arith)) (l .inv .2)
 
 pub put-spec : {M : Type 1} → statement M
-put-spec =
-    tie.close
-    (tie.spec
-    Inv-loop
-    μ-loop
-    loop-holds
-    shared-slice-read-put-byte
-    put-byte-requires
-    add-i
-    loop-less
-    loop-again
-    same-length
-    returns)
+put-spec = tie.close (tie.spec
+    Inv-loop μ-loop loop-holds (λ c. omega arith) put-byte-requires (λ c. omega arith) (λ c. omega arith) loop-again
+    same-length returns)

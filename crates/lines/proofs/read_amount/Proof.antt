@@ -8,7 +8,7 @@ use borrow.Author.Needs.{needs}
 use Rattle.lines.proofs.Orders.{amount-short, amount-unspaced, amount-unnamed, amount-untimed, amount-read}
 use Rattle.lines.specs.Words.{Patterned}
 use Rattle.lines.specs.declared.Pattern.{Pattern}
-use Rattle.times.specs.Places.{Reads}
+use Rattle.times.specs.Places.{ReadsAs}
 use Rattle.times.specs.Texts.{Readable}
 use Rattle.times.specs.declared.Time.{Time}
 use Rattle.lines.proofs.read_amount.Statement.{statement}
@@ -60,14 +60,14 @@ enum-told-2 : tie.Need-enum-told-2
 enum-told-2 c = search needs
 
 returns-4 : tie.Need-returns-4
-returns-4 c = amount-untimed _ _ (subst (λ (t : Time). Reads Readable (take (length (c .before .before .before .before .before .before .before .before .before .before .before .before .before .args .part .now) - (c .before .before .before .before .before .before .before .before .before .before .before .before .before .args .m + 1)) (drop (c .before .before .before .before .before .before .before .before .before .before .before .before .before .args .m + 1) (c .before .before .before .before .before .before .before .before .before .before .before .before .before .args .part .now))) t) (c .enum-told2 .given .1) (c .before .before .read .ensures))
+returns-4 c = amount-untimed _ _ (subst (λ (t : Time). ReadsAs Readable (take (length (c .before .before .before .before .before .before .before .before .before .before .before .before .before .args .part .now) - (c .before .before .before .before .before .before .before .before .before .before .before .before .before .args .m + 1)) (drop (c .before .before .before .before .before .before .before .before .before .before .before .before .before .args .m + 1) (c .before .before .before .before .before .before .before .before .before .before .before .before .before .args .part .now))) t) (c .enum-told2 .given .1) (c .before .before .read .ensures))
 
 returns-5 : tie.Need-returns-5
 returns-5 c =
     let s = c .before .before .before .before .before .before .before .before .before .before .before .before .before .before .args in
     amount-read (s .m) (s .part .now) (omega arith) (c .before .before .before .before .before .before .before .before .before .before .if2 .left)
     (subst (λ (p : Pattern). Patterned (s .m) (take (s .m) (s .part .now)) p) (c .before .before .before .before .before .before .pattern .given .1) (c .before .before .before .before .before .before .before .before .read-pattern .ensures))
-    (subst (λ (t : Time). Reads Readable (take (length (s .part .now) - (s .m + 1)) (drop (s .m + 1) (s .part .now))) t) (c .before .time .given .1) (c .before .before .before .read .ensures))
+    (subst (λ (t : Time). ReadsAs Readable (take (length (s .part .now) - (s .m + 1)) (drop (s .m + 1) (s .part .now))) t) (c .before .time .given .1) (c .before .before .before .read .ensures))
 
 pub read-amount-spec : {M : Type 1} → statement M
 read-amount-spec =

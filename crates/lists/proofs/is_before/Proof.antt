@@ -22,12 +22,6 @@ returns-2 c = let s = c .before .before .args in no-longer (s .a .now) (s .b .no
 loop-holds : tie.Need-loop-holds Inv-loop μ-loop
 loop-holds c = let s = c .before .before .args in (omega arith, omega arith, rest-start (s .a .now) (s .b .now))
 
-shared-slice-read-if3 : tie.Need-shared-slice-read-if3 Inv-loop μ-loop
-shared-slice-read-if3 c = omega arith
-
-shared-slice-read-if3-2 : tie.Need-shared-slice-read-if3-2 Inv-loop μ-loop
-shared-slice-read-if3-2 c = omega arith
-
 returns-3 : tie.Need-returns-3 Inv-loop μ-loop
 returns-3 c =
     let s = c .before .before .before .before .before .before .before .args in
@@ -35,24 +29,12 @@ returns-3 c =
     let h = c .before .before .before .loop-test .taken in
     yes-smaller (s .a .now) (s .b .now) (l .inv .1) (place-less (s .a .now) (s .b .now) (l .i) (l .inv .2) h (omega (arith, h, l .inv .1)) (c .if3 .taken))
 
-shared-slice-read-if4 : tie.Need-shared-slice-read-if4 Inv-loop μ-loop
-shared-slice-read-if4 c = omega arith
-
-shared-slice-read-if4-2 : tie.Need-shared-slice-read-if4-2 Inv-loop μ-loop
-shared-slice-read-if4-2 c = omega arith
-
 returns-4 : tie.Need-returns-4 Inv-loop μ-loop
 returns-4 c =
     let s = c .before .before .before .before .before .before .before .before .before .before .args in
     let l = c .before .before .before .before .before .before .before .loop in
     let h = c .before .before .before .before .before .before .loop-test .taken in
     no-smaller (s .a .now) (s .b .now) (l .inv .1) (place-more (s .a .now) (s .b .now) (l .i) (l .inv .2) h (omega (arith, h, l .inv .1)) (c .if4 .taken))
-
-add-i : tie.Need-add-i Inv-loop μ-loop
-add-i c = omega arith
-
-loop-less : tie.Need-loop-less Inv-loop μ-loop
-loop-less c = omega arith
 
 loop-again : tie.Need-loop-again Inv-loop μ-loop
 loop-again c =
@@ -69,21 +51,6 @@ returns-5 c =
     no-smaller (s .a .now) (s .b .now) (l .inv .1) (rest-end (s .a .now) (s .b .now) (l .i) (l .inv .2) h (omega (arith, h, l .inv .1)))
 
 pub is-before-spec : {M : Type 1} → statement M
-is-before-spec =
-    tie.close
-    (tie.spec
-    Inv-loop
-    μ-loop
-    returns
-    returns-2
-    loop-holds
-    shared-slice-read-if3
-    shared-slice-read-if3-2
-    returns-3
-    shared-slice-read-if4
-    shared-slice-read-if4-2
-    returns-4
-    add-i
-    loop-less
-    loop-again
-    returns-5)
+is-before-spec = tie.close (tie.spec
+    Inv-loop μ-loop returns returns-2 loop-holds (λ c. omega arith) (λ c. omega arith) returns-3 (λ c. omega arith)
+    (λ c. omega arith) returns-4 (λ c. omega arith) (λ c. omega arith) loop-again returns-5)

@@ -26,105 +26,39 @@ abbrev put-number-below : ℕ → In 1 put-number-kinds.ps
 put-number-below t =
     and 1 put-number-kinds.ps (falls 1 put-number-kinds.ps _<_ μ-put-number t) put-number.Pre
 
-put-number-digit-requires : (t : ℕ) → put-number-lts.Need-digit-requires (
-  digit-reads.Asked,
-  digit-reads.Learnt,
-  put-byte-reads.Asked,
-  put-byte-reads.Learnt,
-  put-number-below t,
-  put-number.Post,
-) (put-number-at t) put-number.Post
+-- what the functions that it calls ask and tell
+abbrev calls : ℕ → put-number-lts.Claims
+calls t = (digit-reads.Asked, digit-reads.Learnt, put-byte-reads.Asked, put-byte-reads.Learnt, put-number-below t, put-number.Post)
+
+put-number-digit-requires : (t : ℕ) → put-number-lts.Need-digit-requires (calls t) (put-number-at t) put-number.Post
 put-number-digit-requires t c κs = c .before .if1 .taken
 
-put-number-put-byte-requires : (t : ℕ) → put-number-lts.Need-put-byte-requires (
-  digit-reads.Asked,
-  digit-reads.Learnt,
-  put-byte-reads.Asked,
-  put-byte-reads.Learnt,
-  put-number-below t,
-  put-number.Post,
-) (put-number-at t) put-number.Post
+put-number-put-byte-requires : (t : ℕ) → put-number-lts.Need-put-byte-requires (calls t) (put-number-at t) put-number.Post
 put-number-put-byte-requires t c κs = omega (arith, ap length (decimal-small (c .before .before .before .before .args .n) (c .before .before .if1 .taken)), c .before .before .before .before .pre .1)
 
-put-number-same-length : (t : ℕ) → put-number-lts.Need-same-length (
-  digit-reads.Asked,
-  digit-reads.Learnt,
-  put-byte-reads.Asked,
-  put-byte-reads.Learnt,
-  put-number-below t,
-  put-number.Post,
-) (put-number-at t) put-number.Post
+put-number-same-length : (t : ℕ) → put-number-lts.Need-same-length (calls t) (put-number-at t) put-number.Post
 put-number-same-length t c = c .before .before .put-byte .kept .0
 
-put-number-returns : (t : ℕ) → put-number-lts.Need-returns (
-  digit-reads.Asked,
-  digit-reads.Learnt,
-  put-byte-reads.Asked,
-  put-byte-reads.Learnt,
-  put-number-below t,
-  put-number.Post,
-) (put-number-at t) put-number.Post
+put-number-returns : (t : ℕ) → put-number-lts.Need-returns (calls t) (put-number-at t) put-number.Post
 put-number-returns t c = number-first (c .before .before .before .before .before .before .before .args .n) (c .before .before .before .before .before .if1 .taken) (c .before .before .before .digit .ensures) (c .before .before .put-byte .ensures)
 
-put-number-put-number-requires : (t : ℕ) → put-number-lts.Need-put-number-requires (
-  digit-reads.Asked,
-  digit-reads.Learnt,
-  put-byte-reads.Asked,
-  put-byte-reads.Learnt,
-  put-number-below t,
-  put-number.Post,
-) (put-number-at t) put-number.Post
+put-number-put-number-requires : (t : ℕ) → put-number-lts.Need-put-number-requires (calls t) (put-number-at t) put-number.Post
 put-number-put-number-requires t c κs = (omega (arith, c .before .before .before .pre .0, c .before .if1 .left), omega (arith, decimal-more (c .before .before .before .args .n) (c .before .if1 .left), c .before .before .before .pre .1))
 
-put-number-digit-requires-2 : (t : ℕ) → put-number-lts.Need-digit-requires-2 (
-  digit-reads.Asked,
-  digit-reads.Learnt,
-  put-byte-reads.Asked,
-  put-byte-reads.Learnt,
-  put-number-below t,
-  put-number.Post,
-) (put-number-at t) put-number.Post
+put-number-digit-requires-2 : (t : ℕ) → put-number-lts.Need-digit-requires-2 (calls t) (put-number-at t) put-number.Post
 put-number-digit-requires-2 t c κs = omega arith
 
-put-number-put-byte-requires-2 : (t : ℕ) → put-number-lts.Need-put-byte-requires-2 (
-  digit-reads.Asked,
-  digit-reads.Learnt,
-  put-byte-reads.Asked,
-  put-byte-reads.Learnt,
-  put-number-below t,
-  put-number.Post,
-) (put-number-at t) put-number.Post
+put-number-put-byte-requires-2 : (t : ℕ) → put-number-lts.Need-put-byte-requires-2 (calls t) (put-number-at t) put-number.Post
 put-number-put-byte-requires-2 t c κs = omega (arith, c .before .before .before .before .put-number .ensures .place, c .before .before .before .before .put-number .kept .0, decimal-more (c .before .before .before .before .before .before .before .before .args .n) (c .before .before .before .before .before .before .if1 .left), c .before .before .before .before .before .before .before .before .pre .1)
 
-put-number-same-length-2 : (t : ℕ) → put-number-lts.Need-same-length-2 (
-  digit-reads.Asked,
-  digit-reads.Learnt,
-  put-byte-reads.Asked,
-  put-byte-reads.Learnt,
-  put-number-below t,
-  put-number.Post,
-) (put-number-at t) put-number.Post
+put-number-same-length-2 : (t : ℕ) → put-number-lts.Need-same-length-2 (calls t) (put-number-at t) put-number.Post
 put-number-same-length-2 t c = c .before .before .put-byte2 .kept .0 ∙ c .before .before .before .before .before .before .before .put-number .kept .0
 
-put-number-returns-2 : (t : ℕ) → put-number-lts.Need-returns-2 (
-  digit-reads.Asked,
-  digit-reads.Learnt,
-  put-byte-reads.Asked,
-  put-byte-reads.Learnt,
-  put-number-below t,
-  put-number.Post,
-) (put-number-at t) put-number.Post
+put-number-returns-2 : (t : ℕ) → put-number-lts.Need-returns-2 (calls t) (put-number-at t) put-number.Post
 put-number-returns-2 t c = number-last (c .before .before .before .before .before .before .before .before .before .before .before .args .n) (c .before .before .before .before .before .before .before .before .before .if1 .left) (c .before .before .before .digit2 .ensures) (c .before .before .before .before .before .before .before .put-number .ensures) (c .before .before .put-byte2 .ensures) (c .before .before .before .before .before .before .before .before .before .before .before .pre .1)
 
 pub +put-number-spec : {M : Type 1} → statement M
-+put-number-spec = close μ-put-number λ t. put-number-lts.spec (
-  digit-reads.Asked,
-  digit-reads.Learnt,
-  put-byte-reads.Asked,
-  put-byte-reads.Learnt,
-  put-number-below t,
-  put-number.Post,
-)
++put-number-spec = close μ-put-number λ t. put-number-lts.spec (calls t)
     (put-number-at t)
     put-number.Post
     (put-number-digit-requires t)

@@ -12,15 +12,9 @@ put-number-requires c κs = omega (arith, c .before .before .pre, clock-length (
 put-byte-requires : tie.Need-put-byte-requires
 put-byte-requires c κs = omega (arith, c .before .before .before .before .before .before .pre, clock-length (c .before .before .before .before .before .before .args .seconds), c .before .before .before .put-number .ensures .place, c .before .before .before .put-number .kept .0)
 
-digit-requires : tie.Need-digit-requires
-digit-requires c κs = search needs
-
 put-byte-requires-2 : tie.Need-put-byte-requires-2
 put-byte-requires-2 c κs =
     omega (arith, c .before .before .before .before .before .before .before .before .before .before .before .pre, clock-length (c .before .before .before .before .before .before .before .before .before .before .before .args .seconds), c .before .before .before .before .before .before .before .before .put-number .ensures .place, c .before .before .before .before .before .before .before .before .put-number .kept .0, c .before .before .before .before .put-byte .ensures .place, c .before .before .before .before .put-byte .kept .0)
-
-digit-requires-2 : tie.Need-digit-requires-2
-digit-requires-2 c κs = search needs
 
 put-byte-requires-3 : tie.Need-put-byte-requires-3
 put-byte-requires-3 c κs =
@@ -36,23 +30,12 @@ put-byte-requires-3 c κs =
       c .before .before .before .before .put-byte2 .kept .0,
     )
 
-same-length : tie.Need-same-length
-same-length c = search needs
-
 returns : tie.Need-returns
 returns c =
     time-last (c .before .before .before .before .before .before .before .before .before .before .before .before .before .before .before .before .before .before .before .args .seconds) (c .before .before .before .before .before .before .before .before .digit .ensures) (c .before .before .before .digit2 .ensures) (c .before .before .before .before .before .before .before .before .before .before .before .before .before .before .before .before .put-number .ensures) (c .before .before .before .before .before .before .before .before .before .before .before .before .put-byte .ensures)
     (c .before .before .before .before .before .before .before .put-byte2 .ensures) (c .before .before .put-byte3 .ensures) (c .before .before .before .before .before .before .before .before .before .before .before .before .before .before .before .before .before .before .before .pre)
 
 pub put-time-spec : {M : Type 1} → statement M
-put-time-spec =
-    tie.close
-    (tie.spec
-    put-number-requires
-    put-byte-requires
-    digit-requires
-    put-byte-requires-2
-    digit-requires-2
-    put-byte-requires-3
-    same-length
-    returns)
+put-time-spec = tie.close (tie.spec
+    put-number-requires put-byte-requires (λ c κs. search needs) put-byte-requires-2 (λ c κs. search needs)
+    put-byte-requires-3 (λ c. search needs) returns)

@@ -57,9 +57,6 @@ cover-returns-2 t c = let s = c .before .before .before in one-left (s .pre .1 .
 cover-cast-c : (t : ℕ) → cover-lts.Need-cast-c (cover-calls t) (cover-at t) cover.Post
 cover-cast-c t c = omega (arith, trailing-le 32 (c .before .before .before .args .need))
 
-cover-sub-try-boxes : (t : ℕ) → cover-lts.Need-sub-try-boxes (cover-calls t) (cover-at t) cover.Post
-cover-sub-try-boxes t c = search needs
-
 cover-try-boxes-requires : (t : ℕ) → cover-lts.Need-try-boxes-requires (cover-calls t) (cover-at t) cover.Post
 cover-try-boxes-requires t c κs =
     let s = c .before .before .before .before in
@@ -68,14 +65,9 @@ cover-try-boxes-requires t c κs =
       omega (arith, s .pre .0, more),
       (
         one-more (s .pre .1 .0) more,
-        omega (arith, s .pre .1 .1, more),
-        left-lowest (s .pre .1 .0) some,
-        left-lt (s .pre .1 .0) some,
+        (omega (arith, s .pre .1 .1, more), left-lowest (s .pre .1 .0) some, left-lt (s .pre .1 .0) some),
       ),
     )
-
-cover-same-length : (t : ℕ) → cover-lts.Need-same-length (cover-calls t) (cover-at t) cover.Post
-cover-same-length t c = search needs
 
 cover-returns-3 : (t : ℕ) → cover-lts.Need-returns-3 (cover-calls t) (cover-at t) cover.Post
 cover-returns-3 t c =
@@ -91,7 +83,7 @@ abbrev μ-loop : try-boxes-lts.MeasureT-loop
 μ-loop m sets singles costs c need room left spare area₀ n t₀ area t = n - t
 
 try-boxes-power2-requires : (t : ℕ) → try-boxes-lts.Need-power2-requires (calls t) (try-boxes-at t) try-boxes.Post Inv-loop μ-loop
-try-boxes-power2-requires t c κs = let s = c .before in omega (arith, s .pre .1 .0 .marks)
+try-boxes-power2-requires t c κs = let s = c .before in omega (arith, s .pre .1 .0 .stage .marks)
 
 try-boxes-loop-holds : (t : ℕ) → try-boxes-lts.Need-loop-holds (calls t) (try-boxes-at t) try-boxes.Post Inv-loop μ-loop
 try-boxes-loop-holds t c =
@@ -101,34 +93,7 @@ try-boxes-loop-holds t c =
 try-boxes-box-on-requires : (t : ℕ) → try-boxes-lts.Need-box-on-requires (calls t) (try-boxes-at t) try-boxes.Post Inv-loop μ-loop
 try-boxes-box-on-requires t c κs =
     let s = c .before .before .before .before in
-    (s .pre .1 .0 .marks, s .pre .1 .3, omega (arith, c .loop-test .taken, c .before .loop .inv .2), s .pre .1 .0 .of-singles)
-
-try-boxes-mul-s : (t : ℕ) → try-boxes-lts.Need-mul-s (calls t) (try-boxes-at t) try-boxes.Post Inv-loop μ-loop
-try-boxes-mul-s t c = omega arith
-
-try-boxes-element-copy-out-s : (t : ℕ) → try-boxes-lts.Need-element-copy-out-s (calls t) (try-boxes-at t) try-boxes.Post Inv-loop μ-loop
-try-boxes-element-copy-out-s t c = omega arith
-
-try-boxes-mul-k : (t : ℕ) → try-boxes-lts.Need-mul-k (calls t) (try-boxes-at t) try-boxes.Post Inv-loop μ-loop
-try-boxes-mul-k t c = omega arith
-
-try-boxes-element-copy-out-k : (t : ℕ) → try-boxes-lts.Need-element-copy-out-k (calls t) (try-boxes-at t) try-boxes.Post Inv-loop μ-loop
-try-boxes-element-copy-out-k t c = omega arith
-
-try-boxes-cast-area : (t : ℕ) → try-boxes-lts.Need-cast-area (calls t) (try-boxes-at t) try-boxes.Post Inv-loop μ-loop
-try-boxes-cast-area t c = search needs
-
-try-boxes-slice-write-area : (t : ℕ) → try-boxes-lts.Need-slice-write-area (calls t) (try-boxes-at t) try-boxes.Post Inv-loop μ-loop
-try-boxes-slice-write-area t c = search needs
-
-try-boxes-sub-cover : (t : ℕ) → try-boxes-lts.Need-sub-cover (calls t) (try-boxes-at t) try-boxes.Post Inv-loop μ-loop
-try-boxes-sub-cover t c = simp length-set (omega arith)
-
-try-boxes-part-cover-start : (t : ℕ) → try-boxes-lts.Need-part-cover-start (calls t) (try-boxes-at t) try-boxes.Post Inv-loop μ-loop
-try-boxes-part-cover-start t c = simp length-set (omega arith)
-
-try-boxes-part-cover-end : (t : ℕ) → try-boxes-lts.Need-part-cover-end (calls t) (try-boxes-at t) try-boxes.Post Inv-loop μ-loop
-try-boxes-part-cover-end t c = search needs
+    (s .pre .1 .0 .stage .marks, s .pre .1 .0 .stage .of-singles, s .pre .1 .1 .2, omega (arith, c .loop-test .taken, c .before .loop .inv .2))
 
 try-boxes-cover-requires : (t : ℕ) → try-boxes-lts.Need-cover-requires (calls t) (try-boxes-at t) try-boxes.Post Inv-loop μ-loop
 try-boxes-cover-requires t c κs =
@@ -138,7 +103,7 @@ try-boxes-cover-requires t c κs =
       omega (arith, s .pre .0),
       (
         deeper (s .args .left) (s .pre .1 .0) (s .fits .room .fits) (s .args .c) (l .t) (y .result) (y .ensures .1) (y .ensures .0) (c .before .before .before .if1 .taken) (omega (arith, c .before .if2 .taken)),
-        simp (length-take, length-drop, length-set) (omega (arith, s .pre .1 .1, l .inv .0)),
+        simp (length-take, length-drop, length-set) (omega (arith, s .pre .1 .1 .0, l .inv .0)),
       ),
     )
 
@@ -151,16 +116,10 @@ try-boxes-returns t c =
     let l = c .before .before .before .before .before .before .before .before .before .before .before .loop in
     let y = c .before .before .before .before .before .before .before .before .before .box-on in
     let q = c .before .before .before .cover in
-    turn-hit (s .args .left) (s .pre .1 .0) (s .fits .room .fits) (s .args .c) (l .t) (y .result) (y .ensures .1) (y .ensures .0) (c .before .before .before .before .before .before .before .if1 .taken) (s .pre .1 .2) (s .pre .1 .3) (l .inv .4) (l .area) _ _
-    (omega (arith, s .pre .1 .1, l .inv .0))
-    (omega (arith, simp (length-take, length-drop, length-set) at (q .kept .1 .1 .1 .1 .1 .1 .1 .1 .0), s .pre .1 .1, l .inv .0))
+    turn-hit (s .args .left) (s .pre .1 .0) (s .fits .room .fits) (s .args .c) (l .t) (y .result) (y .ensures .1) (y .ensures .0) (c .before .before .before .before .before .before .before .if1 .taken) (s .pre .1 .1 .1) (s .pre .1 .1 .2) (l .inv .4) (l .area) _ _
+    (omega (arith, s .pre .1 .1 .0, l .inv .0))
+    (omega (arith, simp (length-take, length-drop, length-set) at (q .kept .1 .1 .1 .1 .1 .1 .1 .1 .0), s .pre .1 .1 .0, l .inv .0))
     (reached-yes _ _ _ _ _ (q .result) (c .if3 .taken) (q .ensures))
-
-try-boxes-add-t : (t : ℕ) → try-boxes-lts.Need-add-t (calls t) (try-boxes-at t) try-boxes.Post Inv-loop μ-loop
-try-boxes-add-t t c = search needs
-
-try-boxes-loop-less : (t : ℕ) → try-boxes-lts.Need-loop-less (calls t) (try-boxes-at t) try-boxes.Post Inv-loop μ-loop
-try-boxes-loop-less t c = search needs
 
 try-boxes-loop-again : (t : ℕ) → try-boxes-lts.Need-loop-again (calls t) (try-boxes-at t) try-boxes.Post Inv-loop μ-loop
 try-boxes-loop-again t c =
@@ -183,16 +142,19 @@ try-boxes-loop-again t c =
           (c .if1 .came),
     )
 
-try-boxes-same-length-2 : (t : ℕ) → try-boxes-lts.Need-same-length-2 (calls t) (try-boxes-at t) try-boxes.Post Inv-loop μ-loop
-try-boxes-same-length-2 t c = search needs
-
 try-boxes-returns-2 : (t : ℕ) → try-boxes-lts.Need-returns-2 (calls t) (try-boxes-at t) try-boxes.Post Inv-loop μ-loop
 try-boxes-returns-2 t c =
     let s = c .before .before .before .before in
     let l = c .before .loop in
-    turns-end (s .args .left) (s .pre .1 .0) (s .args .c) (l .t) (s .pre .1 .2) (s .pre .1 .3) (omega (arith, c .loop-test .left, l .inv .2)) (l .inv .4)
+    turns-end (s .args .left) (s .pre .1 .0) (s .args .c) (l .t) (s .pre .1 .1 .1) (s .pre .1 .1 .2) (omega (arith, c .loop-test .left, l .inv .2)) (l .inv .4)
 
 pub +cover+try-boxes-spec : {M : Type 1} → statement M
 +cover+try-boxes-spec = close μ-cover μ-try-boxes
-    (λ t. cover-lts.spec (cover-calls t) (cover-at t) cover.Post (cover-returns t) (cover-returns-2 t) (cover-cast-c t) (cover-sub-try-boxes t) (cover-try-boxes-requires t) (cover-same-length t) (cover-returns-3 t))
-    λ t. try-boxes-lts.spec (calls t) (try-boxes-at t) try-boxes.Post Inv-loop μ-loop (try-boxes-power2-requires t) (try-boxes-loop-holds t) (try-boxes-box-on-requires t) (try-boxes-mul-s t) (try-boxes-element-copy-out-s t) (try-boxes-mul-k t) (try-boxes-element-copy-out-k t) (try-boxes-cast-area t) (try-boxes-slice-write-area t) (try-boxes-sub-cover t) (try-boxes-part-cover-start t) (try-boxes-part-cover-end t) (try-boxes-cover-requires t) (try-boxes-same-length t) (try-boxes-returns t) (try-boxes-add-t t) (try-boxes-loop-less t) (try-boxes-loop-again t) (try-boxes-same-length-2 t) (try-boxes-returns-2 t)
+    (λ t. cover-lts.spec (cover-calls t) (cover-at t) cover.Post (cover-returns t) (cover-returns-2 t) (cover-cast-c t)
+    (λ c. search needs) (cover-try-boxes-requires t) (λ c. search needs) (cover-returns-3 t))
+    λ t. try-boxes-lts.spec (calls t) (try-boxes-at t) try-boxes.Post Inv-loop μ-loop (try-boxes-power2-requires t)
+    (try-boxes-loop-holds t) (try-boxes-box-on-requires t) (λ c. omega arith) (λ c. omega arith) (λ c. omega arith)
+    (λ c. omega arith) (λ c. search needs) (λ c. search needs) (λ c. simp length-set (omega arith))
+    (λ c. simp length-set (omega arith)) (λ c. search needs) (try-boxes-cover-requires t) (try-boxes-same-length t)
+    (try-boxes-returns t) (λ c. search needs) (λ c. search needs) (try-boxes-loop-again t) (λ c. search needs)
+    (try-boxes-returns-2 t)

@@ -5,66 +5,30 @@ use Prim.Native.Nat.{_≤_, _-_, _^_, zero-le}
 use native.Mathlib.Omega.{arith}
 use lib.ListN.{length, length-set, getD}
 use borrow.Author.Needs.{needs}
+use Rattle.boxes.proofs.Numbers.{boxes-mono}
 use Rattle.seek.specs.Answer.{has}
-use Rattle.seek.specs.Steps.{entry}
+use Rattle.seek.specs.Steps.{valueAt}
 use Rattle.seek.proofs.Bits.{inside-no}
-use Rattle.seek.proofs.Computed.{three-le}
 use Rattle.seek.proofs.Cost.{Priced, priced-skip, priced-set, priced-all}
 use Rattle.seek.proofs.certify.Statement.{statement}
 use Rattle.seek.proofs.certify.Tie as tie
 
 abbrev Inv-loop : tie.InvT-loop
-Inv-loop m sets need room plus minus n costs₀ b₀ costs b = (b ≤ n) × (n ≡ 3 ^ m) × (n ≤ 243) × (length costs ≡ 243) × Priced m (has need) (has room) (entry plus) (entry minus) costs b
+Inv-loop m sets need room plus minus n costs₀ b₀ costs b = (b ≤ n) × (n ≡ 3 ^ m) × (n ≤ 243) × (length costs ≡ 243) × Priced m (has need) (has room) (valueAt plus) (valueAt minus) costs b
 
 abbrev μ-loop : tie.MeasureT-loop
 μ-loop m sets need room plus minus n costs₀ b₀ costs b = n - b
 
-power3-requires : tie.Need-power3-requires Inv-loop μ-loop
-power3-requires c κs = search needs
-
 loop-holds : tie.Need-loop-holds Inv-loop μ-loop
 loop-holds c =
     let s = c .before in
-    (zero-le, c .power3 .ensures .0, omega (arith, c .power3 .ensures .0, three-le (s .args .m) (s .pre .0)), refl, λ a l w. absurd (omega (arith, l)))
-
-mul-s : tie.Need-mul-s Inv-loop μ-loop
-mul-s c = omega arith
-
-element-copy-out-s : tie.Need-element-copy-out-s Inv-loop μ-loop
-element-copy-out-s c = omega arith
-
-weight-of-requires : tie.Need-weight-of-requires Inv-loop μ-loop
-weight-of-requires c κs = search needs
-
-weight-of-requires-2 : tie.Need-weight-of-requires-2 Inv-loop μ-loop
-weight-of-requires-2 c κs = search needs
-
-add-if2 : tie.Need-add-if2 Inv-loop μ-loop
-add-if2 c = omega arith
+    (zero-le, c .power3 .ensures .0, omega (arith, c .power3 .ensures .0, boxes-mono (s .pre .0)), refl, λ a l w. absurd (omega (arith, l)))
 
 plain-requires : tie.Need-plain-requires Inv-loop μ-loop
 plain-requires c κs = let s = c .before .before .before .before .before .before .before .before in s .pre .0
 
 returns : tie.Need-returns Inv-loop μ-loop
 returns c = c .plain .ensures
-
-add-costs : tie.Need-add-costs Inv-loop μ-loop
-add-costs c = omega arith
-
-sub-costs : tie.Need-sub-costs Inv-loop μ-loop
-sub-costs c = omega arith
-
-mul-costs : tie.Need-mul-costs Inv-loop μ-loop
-mul-costs c = omega arith
-
-array-write-costs : tie.Need-array-write-costs Inv-loop μ-loop
-array-write-costs c = omega arith
-
-add-b : tie.Need-add-b Inv-loop μ-loop
-add-b c = omega arith
-
-loop-less : tie.Need-loop-less Inv-loop μ-loop
-loop-less c = omega arith
 
 loop-again : tie.Need-loop-again Inv-loop μ-loop
 loop-again c =
@@ -77,51 +41,25 @@ loop-again c =
       l .inv .2,
       ⊎-elim (λ w. ap length (w .4) ∙ simp length-set (l .inv .3)) (λ w. ap length (w .1) ∙ l .inv .3) (c .if1 .came),
       ⊎-elim
-          (λ w. rw (w .4) (priced-set (s .args .m) (s .args .need) (s .args .room) (entry (s .args .plus .now)) (entry (s .args .minus .now)) (l .costs) (l .b) (l .inv .4)
+          (λ w. rw (w .4) (priced-set (s .args .m) (s .args .need) (s .args .room) (valueAt (s .args .plus .now)) (valueAt (s .args .minus .now)) (l .costs) (l .b) (l .inv .4)
           (getD (s .args .sets .now) (l .b) 0) _ (row .1) (omega (arith, lt, l .inv .2, l .inv .3))
           (omega (arith, w .1 .ensures .0, w .2 .ensures .0, w .3 .left))))
-          (λ w. rw (w .1) (priced-skip (s .args .m) (s .args .need) (s .args .room) (entry (s .args .plus .now)) (entry (s .args .minus .now)) (l .costs) (l .b) (l .inv .4)
+          (λ w. rw (w .1) (priced-skip (s .args .m) (s .args .need) (s .args .room) (valueAt (s .args .plus .now)) (valueAt (s .args .minus .now)) (l .costs) (l .b) (l .inv .4)
           (inside-no (s .args .m) (l .b) (getD (s .args .sets .now) (l .b) 0) (row .1) (s .args .room) (w .0 .left)))) (c .if1 .came),
     )
-
-weight-of-requires-3 : tie.Need-weight-of-requires-3 Inv-loop μ-loop
-weight-of-requires-3 c κs = search needs
-
-weight-of-requires-4 : tie.Need-weight-of-requires-4 Inv-loop μ-loop
-weight-of-requires-4 c κs = search needs
 
 returns-2 : tie.Need-returns-2 Inv-loop μ-loop
 returns-2 c =
     let s = c .before .before .before .before .before in
     let l = c .before .before .before .loop in
-    let e : l .b ≡ 3 ^ s .args .m = omega (arith, l .inv .0, l .inv .1, c .before .before .loop-test .left) in (
-      rw (c .before .weight-of3 .ensures .0, c .weight-of4 .ensures .0)
-          (priced-all (s .args .m) (s .args .need) (s .args .room) (entry (s .args .plus .now)) (entry (s .args .minus .now)) (l .costs) (l .b) (l .inv .4) e),
-      c .weight-of4 .ensures .1,
-    )
+    let e : l .b ≡ 3 ^ s .args .m = omega (arith, l .inv .0, l .inv .1, c .before .before .loop-test .left) in
+    let small = rw (c .weight-of4 .ensures .0) at (c .weight-of4 .ensures .1) in
+    rw (c .before .weight-of3 .ensures .0, c .weight-of4 .ensures .0)
+    (priced-all (s .args .m) (s .args .need) (s .args .room) (valueAt (s .args .plus .now)) (valueAt (s .args .minus .now)) (l .costs) (l .b) (l .inv .4) e small)
 
 pub certify-spec : {M : Type 1} → statement M
-certify-spec =
-    tie.close
-    (tie.spec
-    Inv-loop
-    μ-loop
-    power3-requires
-    loop-holds
-    mul-s
-    element-copy-out-s
-    weight-of-requires
-    weight-of-requires-2
-    add-if2
-    plain-requires
-    returns
-    add-costs
-    sub-costs
-    mul-costs
-    array-write-costs
-    add-b
-    loop-less
-    loop-again
-    weight-of-requires-3
-    weight-of-requires-4
-    returns-2)
+certify-spec = tie.close (tie.spec
+    Inv-loop μ-loop (λ c κs. search needs) loop-holds (λ c. omega arith) (λ c. omega arith) (λ c κs. search needs)
+    (λ c κs. search needs) (λ c. omega arith) plain-requires returns (λ c. omega arith) (λ c. omega arith)
+    (λ c. omega arith) (λ c. omega arith) (λ c. omega arith) (λ c. omega arith) loop-again (λ c κs. search needs)
+    (λ c κs. search needs) returns-2)

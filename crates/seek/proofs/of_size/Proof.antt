@@ -5,36 +5,21 @@ use Rattle.seek.proofs.Cost.{too-few, to-spare}
 use Rattle.seek.proofs.of_size.Statement.{statement}
 use Rattle.seek.proofs.of_size.Tie as tie
 
-mul-all : tie.Need-mul-all
-mul-all c = search needs
-
-add-all : tie.Need-add-all
-add-all c = search needs
-
 returns : tie.Need-returns
 returns c =
     let s = c .before .before in
-    too-few (s .args .m) (s .args .costs .now) (has (s .args .need)) (has (s .args .room)) (s .args .k) (s .args .plus) (s .args .minus) (s .pre .6) (c .if1 .taken)
+    too-few (s .args .m) (s .args .costs .now) (has (s .args .need)) (has (s .args .room)) (s .args .k) (s .args .plus) (s .args .minus) (s .pre .1 .0) (c .if1 .taken)
 
 cover-requires : tie.Need-cover-requires
 cover-requires c κs =
     let s = c .before .before .before in (
       record {
-        marks = s .pre .0;
-        small = s .pre .1;
-        of-boxes = s .pre .3;
-        of-singles = s .pre .4;
-        least = s .pre .5;
-        most = to-spare (s .args .m) (s .args .costs .now) (has (s .args .need)) (has (s .args .room)) (s .args .k) (s .args .plus) (s .args .minus) (s .pre .6) (c .before .if1 .left);
+        stage = s .pre .0;
+        most = to-spare (s .args .m) (s .args .costs .now) (has (s .args .need)) (has (s .args .room)) (s .args .k) (s .args .plus) (s .args .minus) (s .pre .1 .0) (c .before .if1 .left);
       },
-      s .pre .2,
+      s .pre .1 .1 .1,
     )
 
-same-length : tie.Need-same-length
-same-length c = search needs
-
-returns-2 : tie.Need-returns-2
-returns-2 c = search needs
-
 pub of-size-spec : {M : Type 1} → statement M
-of-size-spec = tie.close (tie.spec mul-all add-all returns cover-requires same-length returns-2)
+of-size-spec = tie.close (tie.spec
+    (λ c. search needs) (λ c. search needs) returns cover-requires (λ c. search needs) (λ c. search needs))

@@ -1,12 +1,11 @@
 -- Each box costs the same, so that a list costs that for each of its boxes.
-use lib.Dec.{lit<}
 use Rattle.seek.specs.Answer.{has}
 use Rattle.seek.proofs.Cost.{plain-certified}
 use Rattle.seek.proofs.plain.Statement.{statement}
 use Rattle.seek.proofs.plain.Tie as tie
 
 returns : tie.Need-returns
-returns c = (plain-certified (c .args .m) (has (c .args .need)) (has (c .args .room)) (c .pre), lit< tt)
+returns c = plain-certified (c .args .m) (has (c .args .need)) (has (c .args .room)) (c .pre)
 
 pub plain-spec : {M : Type 1} → statement M
 plain-spec = tie.close (tie.spec returns)

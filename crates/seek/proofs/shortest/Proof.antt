@@ -1,11 +1,11 @@
 -- The sizes below k have been tried: no list has fewer than k boxes. By 2 ^ m one is found wherever a list fits.
 use mathlib.Core.Path.{_≡_, refl, _∙_}
-use Prim.Native.Nat.{ℕ, _≤_, _-_, _+_, _^_, zero-le}
+use Prim.Native.Nat.{_≤_, _-_, _+_, _^_, zero-le}
 use native.Mathlib.Omega.{arith}
 use lib.ListN.{length}
 use lib.Pow.{pow-mono}
 use borrow.Author.Needs.{needs}
-use Rattle.lists.proofs.Lay.{AtLeast}
+use Rattle.lists.specs.Lists.{AtLeast}
 use Rattle.seek.specs.Answer.{has}
 use Rattle.seek.proofs.Bits.{has-small}
 use Rattle.seek.proofs.Computed.{sets-hold, singles-hold}
@@ -13,9 +13,6 @@ use Rattle.seek.proofs.Turn.{reached-yes, reached-no}
 use Rattle.seek.proofs.Settled.{none-fits}
 use Rattle.seek.proofs.shortest.Statement.{statement}
 use Rattle.seek.proofs.shortest.Tie as tie
-
-two-le : (m : ℕ) → m ≤ 5 → 2 ^ m ≤ 32
-two-le m h = pow-mono h
 
 abbrev Inv-loop : tie.InvT-loop
 Inv-loop m need room area₀ sets singles costs plus minus n k₀ area k =
@@ -33,7 +30,7 @@ power2-requires c κs = let s = c .before .before .before .before .before in ome
 loop-holds : tie.Need-loop-holds Inv-loop μ-loop
 loop-holds c =
     let s = c .before .before .before .before .before .before in
-    (refl, omega arith, c .power2 .ensures .0, omega (arith, c .power2 .ensures .0, two-le (s .args .m) (s .pre .0)), λ l f. zero-le)
+    (refl, omega arith, c .power2 .ensures .0, omega (arith, c .power2 .ensures .0, pow-mono (s .pre .0)), λ l f. zero-le)
 
 of-size-requires : tie.Need-of-size-requires Inv-loop μ-loop
 of-size-requires c κs =
@@ -41,15 +38,14 @@ of-size-requires c κs =
     let l = c .before .before .before .before .before .loop in
     let lt = c .before .before .before .before .loop-test .taken in
     let w = c .before .before .before .before .before .before .before .before .weighed .ensures in (
-      s .pre .0,
-      s .pre .1,
-      omega (arith, s .pre .2, l .inv .0, l .inv .2, lt),
-      sets-hold (s .args .m) (s .pre .0),
-      singles-hold (s .args .m) (s .pre .0),
-      l .inv .4,
-      w .0,
-      w .1,
-      omega (arith, l .inv .3, lt),
+      record {
+        marks = s .pre .0;
+        small = s .pre .1;
+        of-boxes = sets-hold (s .args .m) (s .pre .0);
+        of-singles = singles-hold (s .args .m) (s .pre .0);
+        least = l .inv .4;
+      },
+      (w, (omega (arith, l .inv .3, lt), omega (arith, s .pre .2, l .inv .0, l .inv .2, lt))),
     )
 
 same-length : tie.Need-same-length Inv-loop μ-loop
@@ -65,12 +61,6 @@ returns c =
       reached-yes _ _ _ _ _ (q .result) (c .if1 .taken) (q .ensures),
     )
 
-add-k : tie.Need-add-k Inv-loop μ-loop
-add-k c = omega arith
-
-loop-less : tie.Need-loop-less Inv-loop μ-loop
-loop-less c = omega arith
-
 loop-again : tie.Need-loop-again Inv-loop μ-loop
 loop-again c =
     let l = c .before .before .before .before .before .before .before .before .before .loop in
@@ -83,9 +73,6 @@ loop-again c =
       reached-no _ _ _ _ _ (q .result) (c .if1 .left) (q .ensures),
     )
 
-same-length-2 : tie.Need-same-length-2 Inv-loop μ-loop
-same-length-2 c = search needs
-
 returns-2 : tie.Need-returns-2 Inv-loop μ-loop
 returns-2 c =
     let s = c .before .before .before .before .before .before .before .before in
@@ -94,19 +81,6 @@ returns-2 c =
     (omega (arith, c .loop-test .left, l .inv .2))
 
 pub shortest-spec : {M : Type 1} → statement M
-shortest-spec =
-    tie.close
-    (tie.spec
-    Inv-loop
-    μ-loop
-    weighed-requires
-    power2-requires
-    loop-holds
-    of-size-requires
-    same-length
-    returns
-    add-k
-    loop-less
-    loop-again
-    same-length-2
-    returns-2)
+shortest-spec = tie.close (tie.spec
+    Inv-loop μ-loop weighed-requires power2-requires loop-holds of-size-requires same-length returns
+    (λ c. omega arith) (λ c. omega arith) loop-again (λ c. search needs) returns-2)

@@ -7,44 +7,20 @@ use borrow.Author.Needs.{needs}
 use borrow.Author.Tests.{eq-eqb, ne-eqb}
 use Rattle.boxes.specs.Sums.{sum}
 use Rattle.seek.specs.Answer.{has}
-use Rattle.seek.specs.Steps.{entry}
+use Rattle.seek.specs.Steps.{valueAt}
 use Rattle.seek.proofs.Bits.{has-shr}
 use Rattle.seek.proofs.Cost.{given, weight-none, weight-in, weight-out}
 use Rattle.seek.proofs.weight_of.Statement.{statement}
 use Rattle.seek.proofs.weight_of.Tie as tie
 
 abbrev Inv-loop : tie.InvT-loop
-Inv-loop s w total₀ c₀ total c = (c ≤ 32) × (total ≡ sum c (given (has s) (entry w))) × (total ≤ c * 4294967295)
+Inv-loop s w total₀ c₀ total c = (c ≤ 32) × (total ≡ sum c (given (has s) (valueAt w))) × (total ≤ c * 4294967295)
 
 abbrev μ-loop : tie.MeasureT-loop
 μ-loop s w total₀ c₀ total c = 32 - c
 
 loop-holds : tie.Need-loop-holds Inv-loop μ-loop
-loop-holds c = (zero-le, weight-none (given (has (c .args .s)) (entry (c .args .w .now))), zero-le)
-
-cast-if1 : tie.Need-cast-if1 Inv-loop μ-loop
-cast-if1 c = omega arith
-
-shr-if1 : tie.Need-shr-if1 Inv-loop μ-loop
-shr-if1 c = omega arith
-
-mul-wide : tie.Need-mul-wide Inv-loop μ-loop
-mul-wide c = omega arith
-
-element-copy-out-wide : tie.Need-element-copy-out-wide Inv-loop μ-loop
-element-copy-out-wide c = omega arith
-
-wide-requires : tie.Need-wide-requires Inv-loop μ-loop
-wide-requires c κs = search needs
-
-add-total : tie.Need-add-total Inv-loop μ-loop
-add-total c = omega arith
-
-add-c : tie.Need-add-c Inv-loop μ-loop
-add-c c = omega arith
-
-loop-less : tie.Need-loop-less Inv-loop μ-loop
-loop-less c = omega arith
+loop-holds c = (zero-le, weight-none (given (has (c .args .s)) (valueAt (c .args .w .now))), zero-le)
 
 loop-again : tie.Need-loop-again Inv-loop μ-loop
 loop-again c =
@@ -52,7 +28,7 @@ loop-again c =
     let l = c .before .before .loop in
     let h = has-shr (l .c) (s .s) in (
       omega (arith, c .before .loop-test .taken),
-      ⊎-elim (λ w. omega (arith, w .3, w .2 .ensures .0, l .inv .1, weight-in (l .c) (has (s .s)) (entry (s .w .now)) (h ∙ eq-eqb _ _ (w .0 .taken)))) (λ w. w .1 ∙ l .inv .1 ∙ sym (weight-out (l .c) (has (s .s)) (entry (s .w .now)) (h ∙ ne-eqb _ _ (w .0 .left)))) (c .if1 .came),
+      ⊎-elim (λ w. omega (arith, w .3, w .2 .ensures .0, l .inv .1, weight-in (l .c) (has (s .s)) (valueAt (s .w .now)) (h ∙ eq-eqb _ _ (w .0 .taken)))) (λ w. w .1 ∙ l .inv .1 ∙ sym (weight-out (l .c) (has (s .s)) (valueAt (s .w .now)) (h ∙ ne-eqb _ _ (w .0 .left)))) (c .if1 .came),
       ⊎-elim (λ w. omega (arith, w .3, w .2 .ensures .1, l .inv .2)) (λ w. omega (arith, w .1, l .inv .2)) (c .if1 .came),
     )
 
@@ -61,22 +37,9 @@ returns c =
     let l = c .before .loop in
     let s = c .before .before .args in
     let e : l .c ≡ 32 = omega (arith, l .inv .0, c .loop-test .left) in
-    (l .inv .1 ∙ ap (λ (n : ℕ). sum n (given (has (s .s)) (entry (s .w .now)))) e, omega (arith, l .inv .2, e))
+    (l .inv .1 ∙ ap (λ (n : ℕ). sum n (given (has (s .s)) (valueAt (s .w .now)))) e, omega (arith, l .inv .2, e))
 
 pub weight-of-spec : {M : Type 1} → statement M
-weight-of-spec =
-    tie.close
-    (tie.spec
-    Inv-loop
-    μ-loop
-    loop-holds
-    cast-if1
-    shr-if1
-    mul-wide
-    element-copy-out-wide
-    wide-requires
-    add-total
-    add-c
-    loop-less
-    loop-again
-    returns)
+weight-of-spec = tie.close (tie.spec
+    Inv-loop μ-loop loop-holds (λ c. omega arith) (λ c. omega arith) (λ c. omega arith) (λ c. omega arith)
+    (λ c κs. search needs) (λ c. omega arith) (λ c. omega arith) (λ c. omega arith) loop-again returns)

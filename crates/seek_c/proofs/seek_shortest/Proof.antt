@@ -1,24 +1,16 @@
 -- What is tested is what the search asks; its answer is told by a number.
 use mathlib.Core.Path.{refl}
 use native.Mathlib.Omega.{arith}
+use lib.Pow.{pow-mono}
 use borrow.Author.Needs.{needs}
-use Rattle.seek_c.proofs.Askable.{shifted-out, shifted-in, two-le, told-boxes, told-nothing, count-le}
+use Rattle.seek.specs.Answer.{Askable}
+use Rattle.seek_c.proofs.Askable.{askable, shifted-in, told-boxes, told-nothing, count-le}
 use Rattle.seek_c.proofs.seek_shortest.Statement.{statement}
 use Rattle.seek_c.proofs.seek_shortest.Tie as tie
 
-returns : tie.Need-returns
-returns c = search needs
-
-power2-requires : tie.Need-power2-requires
-power2-requires c κs = search needs
-
-returns-2 : tie.Need-returns-2
-returns-2 c = search needs
-
 shr-if3 : tie.Need-shr-if3
 shr-if3 c =
-    let s = c .before .before .before .before in
-    omega (arith, c .before .power2 .ensures .0, two-le (s .args .marks) (c .before .before .if1 .left))
+    omega (arith, c .before .power2 .ensures .0, pow-mono (c .before .before .if1 .left))
 
 returns-3 : tie.Need-returns-3
 returns-3 c =
@@ -29,55 +21,33 @@ returns-3 c =
       refused = λ n. (refl, refl);
     }
 
-shortest-requires : tie.Need-shortest-requires
-shortest-requires c κs =
-    let s = c .before .before .before .before .before .before in
-    let e = c .before .before .before .power2 .ensures .0 in
-    (c .before .before .before .before .if1 .left, rw e at (shifted-out (s .args .need) _ (c .before .if3 .left)), omega (arith, e, c .before .before .if2 .left))
+-- past the tests the search may be asked
+may : (c : tie.Else3) → let s = c .before .before .before .before .before .args in Askable (s .marks) (s .need) (s .area .now)
+may c =
+    let s = c .before .before .before .before .before .args in
+    askable (s .marks) (s .need) (s .area .now) (c .before .before .before .if1 .left) (c .before .before .power2 .ensures .0) (c .before .if2 .left) (c .if3 .left)
 
-enum-known-k : tie.Need-enum-known-k
-enum-known-k c = search needs
+shortest-requires : tie.Need-shortest-requires
+shortest-requires c κs = may (c .before)
 
 add-result : tie.Need-add-result
 add-result c =
     let q = c .before .before .before .before .before .shortest in
     omega (arith, count-le _ _ _ _ (q .result) (c .before .k .given .0 .0) (q .ensures) (c .before .k .given .1), q .kept .1 .1 .1 .0)
 
-enum-told : tie.Need-enum-told
-enum-told c = search needs
-
-same-length : tie.Need-same-length
-same-length c = search needs
-
 returns-4 : tie.Need-returns-4
 returns-4 c =
     let s = c .before .before .before .before .before .before .before .before .before .before .before .before in
     let q = c .before .before .before .before .before .shortest in
-    told-boxes (s .args .marks) (s .args .need) (s .args .room) (s .args .area .now) _ (c .before .before .before .before .before .before .before .before .before .before .if1 .left, rw (c .before .before .before .before .before .before .before .before .before .power2 .ensures .0) at (shifted-out (s .args .need) _ (c .before .before .before .before .before .before .before .if3 .left)), omega (arith, c .before .before .before .before .before .before .before .before .before .power2 .ensures .0, c .before .before .before .before .before .before .before .before .if2 .left)) (q .result) (q .ensures) (c .before .k .given .0 .0) (c .before .k .given .1)
-
-same-length-2 : tie.Need-same-length-2
-same-length-2 c = search needs
+    told-boxes (s .args .marks) (s .args .need) (s .args .room) (s .args .area .now) _ (may (c .before .before .before .before .before .before .before)) (q .result) (q .ensures) (c .before .k .given .0 .0) (c .before .k .given .1)
 
 returns-5 : tie.Need-returns-5
 returns-5 c =
     let s = c .before .before .before .before .before .before .before .before .before .before .before in
     let q = c .before .before .before .before .shortest in
-    told-nothing (s .args .marks) (s .args .need) (s .args .room) (s .args .area .now) _ (c .before .before .before .before .before .before .before .before .before .if1 .left, rw (c .before .before .before .before .before .before .before .before .power2 .ensures .0) at (shifted-out (s .args .need) _ (c .before .before .before .before .before .before .if3 .left)), omega (arith, c .before .before .before .before .before .before .before .before .power2 .ensures .0, c .before .before .before .before .before .before .before .if2 .left)) (q .result) (q .ensures) (c .enum-told .given .1)
+    told-nothing (s .args .marks) (s .args .need) (s .args .room) (s .args .area .now) _ (may (c .before .before .before .before .before .before)) (q .result) (q .ensures) (c .enum-told .given .1)
 
 pub seek-shortest-spec : {M : Type 1} → statement M
-seek-shortest-spec =
-    tie.close
-    (tie.spec
-    returns
-    power2-requires
-    returns-2
-    shr-if3
-    returns-3
-    shortest-requires
-    enum-known-k
-    add-result
-    enum-told
-    same-length
-    returns-4
-    same-length-2
-    returns-5)
+seek-shortest-spec = tie.close (tie.spec
+    (λ c. search needs) (λ c κs. search needs) (λ c. search needs) shr-if3 returns-3 shortest-requires
+    (λ c. search needs) add-result (λ c. search needs) (λ c. search needs) returns-4 (λ c. search needs) returns-5)

@@ -8,18 +8,6 @@ use Rattle.times.specs.Parts.{placeOf}
 use Rattle.times.proofs.answer.Statement.{statement}
 use Rattle.times.proofs.answer.Tie as tie
 
-read-requires : tie.Need-read-requires
-read-requires c κs = search needs
-
-enum-known-time : tie.Need-enum-known-time
-enum-known-time c = search needs
-
-enum-told : tie.Need-enum-told
-enum-told c = search needs
-
-place-of-requires : tie.Need-place-of-requires
-place-of-requires c κs = search needs
-
 returns : tie.Need-returns
 returns c =
     let e = c .before .enum-told .given .1 in
@@ -30,6 +18,5 @@ returns-2 : tie.Need-returns-2
 returns-2 c = record { time = c .before .before .before .read .result; reads = c .before .before .before .read .ensures; is = sym (ap readingOf (c .before .time .given .1)) }
 
 pub answer-spec : {M : Type 1} → statement M
-answer-spec =
-    tie.close
-    (tie.spec read-requires enum-known-time enum-told place-of-requires returns returns-2)
+answer-spec = tie.close (tie.spec
+    (λ c κs. search needs) (λ c. search needs) (λ c. search needs) (λ c κs. search needs) returns returns-2)

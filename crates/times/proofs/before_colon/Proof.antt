@@ -3,8 +3,8 @@ use native.Mathlib.Omega.{arith}
 use Prim.Native.Nat.{_≤_, _-_}
 use lib.ListN.{length, getD, take}
 use borrow.Author.Tests.{not-true, not-false}
+use Rattle.ground.proofs.Cases.{denied}
 use Rattle.times.specs.Parts.{Follows}
-use Rattle.times.proofs.Places.{tests-yes, tests-no}
 use Rattle.times.proofs.Fronts.{SoFar, far-none, far-step, stop-at, colon-at, end-at}
 use Rattle.times.proofs.before_colon.Statement.{statement}
 use Rattle.times.proofs.before_colon.Tie as tie
@@ -17,19 +17,13 @@ abbrev μ-loop : tie.MeasureT-loop
 
 next-digit : (c : tie.Else3 Inv-loop μ-loop)
     → Follows (c .before .before .before .before .before .loop .i) (c .before .before .before .before .before .loop .n) (getD (c .before .before .before .before .before .before .before .args .text .now) (c .before .before .before .before .before .loop .i) 0)
-next-digit c = tests-yes (c .before .follows .ensures) (not-false _ (c .if3 .left))
+next-digit c = c .before .follows .ensures .yes (not-false _ (c .if3 .left))
 
 loop-holds : tie.Need-loop-holds Inv-loop μ-loop
 loop-holds c = (omega arith, far-none)
 
-shared-slice-read-c : tie.Need-shared-slice-read-c Inv-loop μ-loop
-shared-slice-read-c c = omega arith
-
 returns : tie.Need-returns Inv-loop μ-loop
 returns c = let l = c .before .before .before .before .loop in stop-at _ (l .i) (l .n) (l .inv .1) (omega arith) (λ q h. omega arith) (λ f. omega (arith, f .digit, c .before .if1 .taken))
-
-add-t10 : tie.Need-add-t10 Inv-loop μ-loop
-add-t10 c = omega arith
 
 returns-2 : tie.Need-returns-2 Inv-loop μ-loop
 returns-2 c = let l = c .before .before .before .before .loop in colon-at _ (l .i) (l .n) (l .inv .1) (omega arith) (c .before .if1 .taken) (omega arith)
@@ -38,16 +32,10 @@ follows-requires : tie.Need-follows-requires Inv-loop μ-loop
 follows-requires c κs = c .before .before .before .loop .inv .1 .small
 
 returns-3 : tie.Need-returns-3 Inv-loop μ-loop
-returns-3 c = let l = c .before .before .before .before .before .loop in stop-at _ (l .i) (l .n) (l .inv .1) (omega arith) (λ q h. c .before .before .if1 .left q) (tests-no (c .before .follows .ensures) (not-true _ (c .if3 .taken)))
+returns-3 c = let l = c .before .before .before .before .before .loop in stop-at _ (l .i) (l .n) (l .inv .1) (omega arith) (λ q h. c .before .before .if1 .left q) (denied (c .before .follows .ensures) (not-true _ (c .if3 .taken)))
 
 grown-requires : tie.Need-grown-requires Inv-loop μ-loop
 grown-requires c κs = let d = next-digit c .digit in (c .before .before .before .before .before .loop .inv .1 .small, d .0, d .1)
-
-add-i : tie.Need-add-i Inv-loop μ-loop
-add-i c = omega arith
-
-loop-less : tie.Need-loop-less Inv-loop μ-loop
-loop-less c = omega arith
 
 loop-again : tie.Need-loop-again Inv-loop μ-loop
 loop-again c = let l = c .before .before .before .before .before .before .loop in (omega arith, rw (c .grown .ensures .0) (far-step _ (l .i) (l .n) (l .inv .1) (omega arith) (next-digit (c .before))))
@@ -56,20 +44,6 @@ returns-4 : tie.Need-returns-4 Inv-loop μ-loop
 returns-4 c = let l = c .before .loop in end-at _ (l .i) (l .n) (l .inv .1) (omega arith)
 
 pub before-colon-spec : {M : Type 1} → statement M
-before-colon-spec =
-    tie.close
-    (tie.spec
-    Inv-loop
-    μ-loop
-    loop-holds
-    shared-slice-read-c
-    returns
-    add-t10
-    returns-2
-    follows-requires
-    returns-3
-    grown-requires
-    add-i
-    loop-less
-    loop-again
-    returns-4)
+before-colon-spec = tie.close (tie.spec
+    Inv-loop μ-loop loop-holds (λ c. omega arith) returns (λ c. omega arith) returns-2 follows-requires returns-3
+    grown-requires (λ c. omega arith) (λ c. omega arith) loop-again returns-4)

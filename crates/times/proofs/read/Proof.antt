@@ -6,7 +6,7 @@ use lib.ListN.{drop, length-drop}
 use Rattle.times.specs.declared.Lead.{Lead}
 use Rattle.times.specs.declared.Lead.the-variants.{Colon}
 use Rattle.times.specs.Texts.{Behind}
-use Rattle.times.specs.Places.{Reads}
+use Rattle.times.specs.Places.{ReadsAs}
 use Rattle.times.specs.Parts.{Led}
 use Rattle.times.proofs.Places.{place-le, lent-part}
 use Rattle.times.proofs.Fronts.{led-stop, led-small, led-on}
@@ -17,26 +17,14 @@ led : (c : tie.After-lead2) → Led (c .before .before .before .before .args .te
 led c = subst (λ (r : Lead). Led (c .before .before .before .before .args .text .now) r) (c .lead2 .given .1) (c .before .before .before-colon .ensures)
 
 rest : (c : tie.After-behind-colon)
-    → Reads (Behind (c .before .before .before .lead2 .given .0 .0)) (drop (c .before .before .before .lead2 .given .0 .1 .0) (c .before .before .before .before .before .before .before .args .text .now)) (c .behind-colon .result)
+    → ReadsAs (Behind (c .before .before .before .lead2 .given .0 .0)) (drop (c .before .before .before .lead2 .given .0 .1 .0) (c .before .before .before .before .before .before .before .args .text .now)) (c .behind-colon .result)
 rest c = lent-part _ (c .before .before .before .before .before .before .before .args .text .now) (c .before .before .before .lead2 .given .0 .1 .0) (c .behind-colon .ensures)
-
-before-colon-requires : tie.Need-before-colon-requires
-before-colon-requires c κs = search needs
-
-enum-known-lead : tie.Need-enum-known-lead
-enum-known-lead c = search needs
-
-enum-known-lead-2 : tie.Need-enum-known-lead-2
-enum-known-lead-2 c = search needs
 
 sub-behind-colon : tie.Need-sub-behind-colon
 sub-behind-colon c = led-small (led (c .before)) .1
 
 part-behind-colon-start : tie.Need-part-behind-colon-start
 part-behind-colon-start c = led-small (led (c .before)) .1
-
-part-behind-colon-end : tie.Need-part-behind-colon-end
-part-behind-colon-end c = search needs
 
 behind-colon-requires : tie.Need-behind-colon-requires
 behind-colon-requires c κs = led-small (led (c .before .before)) .0
@@ -51,16 +39,6 @@ returns-2 : tie.Need-returns-2
 returns-2 c = rw (c .moved .ensures) (led-on _ _ _ (led (c .before .before .before .before)) (rest (c .before)))
 
 pub read-spec : {M : Type 1} → statement M
-read-spec =
-    tie.close
-    (tie.spec
-    before-colon-requires
-    enum-known-lead
-    enum-known-lead-2
-    sub-behind-colon
-    part-behind-colon-start
-    part-behind-colon-end
-    behind-colon-requires
-    moved-requires
-    returns
-    returns-2)
+read-spec = tie.close (tie.spec
+    (λ c κs. search needs) (λ c. search needs) (λ c. search needs) sub-behind-colon part-behind-colon-start
+    (λ c. search needs) behind-colon-requires moved-requires returns returns-2)

@@ -11,13 +11,13 @@ replied-requires : tie.Need-replied-requires
 replied-requires c κs = search needs
 
 returns : tie.Need-returns
-returns c = second-before _ _ (c .before .before .is-before .ensures .0 (c .before .if1 .taken)) (c .replied .ensures)
+returns c = second-before _ _ (c .before .before .is-before .ensures .yes (c .before .if1 .taken)) (c .replied .ensures)
 
 replied-requires-2 : tie.Need-replied-requires-2
 replied-requires-2 c κs = search needs
 
 returns-2 : tie.Need-returns-2
-returns-2 c = first-keeps _ _ (λ b. clash (c .before .before .is-before .ensures .1 b) (c .before .if1 .left)) (c .replied2 .ensures)
+returns-2 c = first-keeps _ _ (λ b. clash (c .before .before .is-before .ensures .sure b) (c .before .if1 .left)) (c .replied2 .ensures)
 
 pub vault-before-spec : {M : Type 1} → statement M
 vault-before-spec =

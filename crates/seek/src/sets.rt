@@ -1,4 +1,4 @@
-// Tables over five marks. A box below 3^m has the same combinations over any number of marks from m on.
+// The boxes' sets and the single boxes over five marks. A box below 3^m has the same combinations over any number of marks from m on.
 
 // The combinations of each box, a bit for each.
 pub const SETS: [u32; 243] = [
