@@ -6,27 +6,12 @@ use mathlib.Core.List.{List}
 use lib.Count.{ones}
 use native.Mathlib.Omega.{arith}
 use Rattle.boxes.specs.Boxes.{contains, freeMarks, through}
+use Rattle.ground.proofs.Every.{every-yes, every-at, every-no}
 use Rattle.ground.proofs.Cases.{if, clash, same-or, and-left, and-right}
 use Rattle.boxes.proofs.Boxes.{contains-box}
 use Rattle.boxes.proofs.Choices.{through-lt, through-contains, through-free, freeMarks-lt, freeCount-through}
 use Rattle.tables.specs.declared.Shift.{Shift}
-use Rattle.tables.specs.Tables.{entry, every, fitsShifted, fitsMoved, touched}
-
-pub every-yes : (n : ℕ) (p : ℕ → Bool) → ((b : ℕ) → b < n → p b ≡ true) → every n p ≡ true
-unfolding every
-every-yes zero p h = refl
-every-yes (suc n) p h = rw (every-yes n p (λ b l. h b (omega arith)), h n (omega arith))
-
-pub every-at : (n : ℕ) (p : ℕ → Bool) (b : ℕ) → every n p ≡ true → b < n → p b ≡ true
-unfolding every
-every-at zero p b e l = absurd (omega arith)
-every-at (suc n) p b e l =
-    same-or b n
-    (λ s. ap p s ∙ and-right (every n p) (p n) e)
-    (λ d. every-at n p b (and-left (every n p) (p n) e) (omega arith))
-
-pub every-no : (n : ℕ) (p : ℕ → Bool) (b : ℕ) → b < n → p b ≡ false → every n p ≡ false
-every-no n p b l f = if (every n p) (λ e. clash (every-at n p b e l) f) (λ e. e)
+use Rattle.tables.specs.Tables.{entry, fitsShifted, fitsMoved, touched}
 
 each : (a x : Bool) → a ≡ true → (not a || x) ≡ x
 each a x e = rw e

@@ -5,6 +5,7 @@ use mathlib.Core.Bool.{Bool, true, false, not, cond, _&&_, _||_}
 use mathlib.Core.List.{List, [], _∷_}
 use lib.Dec.{leb}
 use lib.ListN.{length, getD}
+use Rattle.ground.specs.Every.{every}
 use Rattle.boxes.specs.Boxes.{contains, sumIn, single, freeCount}
 use Rattle.tables.specs.declared.Shift.{Shift}
 use Rattle.tables.specs.declared.Shift.the-variants.{Stays, Up, Down}
@@ -51,11 +52,6 @@ pub record Shifted (m c : ℕ) (s : Shift) (t u : List ℕ) : Type 0 where
   pub long : length u ≡ length t
   pub touched : (b : ℕ) → b < length t → contains m b c ≡ true → Shifts s (entry t b) (entry u b)
   pub others : (b : ℕ) → b < length t → contains m b c ≡ false → entry u b ≡ entry t b
-
--- p holds of each number below n
-unfoldable pub every : ℕ → (ℕ → Bool) → Bool
-every zero p = true
-every (suc n) p = every n p && p n
 
 -- p holds of each box that contains c: the touched entries
 abbrev pub touched : ℕ → ℕ → (ℕ → Bool) → Bool
