@@ -18,8 +18,8 @@ use Rattle.stored.specs.Fields.{good, Reading}
 use Rattle.stored.specs.Form.{form}
 use Rattle.stored.specs.declared.Read.{Read}
 use Rattle.stored.proofs.Numbers.{Bytes}
-use Rattle.stored.proofs.Taken.{taken}
-use Rattle.stored.proofs.Trips.{form-same, told-alike, read-good, travels}
+use Rattle.stored.proofs.IsForm.{is-form}
+use Rattle.stored.proofs.Trips.{form-same, told-agrees, read-good, travels}
 use Rattle.histories.specs.Histories.{Good, afterAll, numbersOf}
 use Rattle.histories.specs.Travels.{Event, change, travel, Happens, changed, stayed, travelled, Lives, rests, lives, eventNumber, afterEvent}
 use Rattle.histories.proofs.Kept.{did-kept}
@@ -31,7 +31,7 @@ five = omega arith
 
 -- the form that is written is the record's
 pub form-kept : (r : Record) → Good r → form (recordOf (sheetOf entries r)) ≡ form r
-form-kept r g = form-same (told-alike 5 243 five r (g .marks))
+form-kept r g = form-same (told-agrees 5 243 five r (g .marks))
 
 pub written-number : (r : Record) → Good r → {out later : List ℕ} {v : Value} → Writes mostMarks (sheetOf entries r) out v later
     → v .number ≡ eventNumber r (travel out)
@@ -75,7 +75,7 @@ pub begins : (t : List ℕ) {a : Read} → Bytes t → Reads mostMarks entries t
 begins t {a} b x z =
     let w = read-good 5 243 five x z in
     let r = w .0 in
-    let k = taken t b (w .1) in
+    let k = is-form t b (w .1) in
     let g : Good r = record {
       marks = k .storable .marks;
       class = λ c e. below-or c (2 ^ r .marks) (λ l. l) (λ l. clash e (k .within .class c l));

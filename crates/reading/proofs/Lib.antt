@@ -1,3 +1,4 @@
 pub mod Offsets
-pub mod Sections
+pub mod Own
+pub mod Entries
 pub mod Whole

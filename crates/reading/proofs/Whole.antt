@@ -1,53 +1,81 @@
--- The marks in front of the sections, and the sheet that is worked out from what was read.
+-- The marks in front of the sections, the record that the two sections give, and the sheet that is worked out from what was read.
 use Prim.Native.Nat.{ℕ, _^_, _≤_, _<_}
-use mathlib.Core.Path.{_≡_, ap, _∙_}
-use mathlib.Core.Bool.{Bool, true, false, not}
-use mathlib.Core.List.{List}
+use mathlib.Core.Path.{_≡_, refl, sym, ap, _∙_}
+use mathlib.Core.Bool.{Bool, true, false, not, _&&_}
+use mathlib.Core.List.{List, [], _∷_}
 use native.Mathlib.Omega.{arith}
+use lib.Dec.{eqb}
 use lib.ListN.{length, getD}
-use Rattle.boxes.specs.Sums.{sum}
+use borrow.Author.Tests.{lt-ltb}
+use Rattle.ground.proofs.Cases.{mark}
+use Rattle.boxes.specs.Sums.{sum, only}
 use Rattle.boxes.proofs.Boxes.{sumIn-all}
-use Rattle.boxes.proofs.Sums.{sum-ext, sum-le, sum-ones, only-le}
+use Rattle.boxes.proofs.Sums.{sum-zero, sum-ext, sum-le, sum-ones}
 use Rattle.tables.specs.Tables.{entry}
-use Rattle.sheet.specs.Limits.{mostMarks, entries, marksOk}
-use Rattle.sheet.specs.Record.{opened, outOf, sheetFrom, Addable}
+use Rattle.sheet.specs.Limits.{mostMarks, entries, marksOk, mostHeld}
+use Rattle.sheet.specs.Record.{Record, opened, outOf, sheetFrom, Addable}
 use Rattle.sheet.specs.declared.Sheet.{Sheet}
 use Rattle.sheet.proofs.Opening.{combinations-fit, sheet-same}
 use Rattle.stored.specs.declared.Read.{Read}
-use Rattle.stored.specs.Fields.{due, marks, class-count, judge, good, refused, Reading}
+use Rattle.stored.specs.declared.Section.the-variants.{Class, Held}
+use Rattle.stored.specs.Sections.{sections}
+use Rattle.stored.specs.Fields.{due, marks, sectionsDue, judge, good, refused, Reading}
 use Rattle.stored.specs.Answers.{readOf, Reads}
 use Rattle.stored.proofs.Numbers.{Bytes}
-use Rattle.stored.proofs.Taken.{taken}
-use Rattle.reading.specs.Parts.{about, Leads}
+use Rattle.stored.proofs.IsForm.{is-form}
+use Rattle.reading.specs.Parts.{Leads, withOwn, Before}
 use Rattle.reading.proofs.Offsets.{number-first, leads-field, faulty-at}
 
 pub refusal : (t : List ℕ) (n p : ℕ) {a : Read} → a ≡ readOf entries (refused n p) → Reading mostMarks t (refused n p) → Reads mostMarks entries t a
 refusal t n p e r = record { outcome = refused n p; run = r; is = e }
 
 module _ (t : List ℕ) (m : ℕ) (h : 0 < length t) (e : m ≡ getD t 0 0) where
-  pub marks-taken : marksOk mostMarks m ≡ true → Leads t (due marks) 0 (due (class-count (opened m))) 1
+  pub marks-taken : marksOk mostMarks m ≡ true → Leads t (due marks) 0 (sectionsDue sections (opened m)) 1
   unfolding judge
-  marks-taken ok = leads-field t marks 0 (due (class-count (opened m))) (omega arith) (rw (number-first t 0 h, ← e, ok))
+  marks-taken ok = leads-field t marks 0 (sectionsDue sections (opened m)) (omega arith) (rw (number-first t 0 h, ← e, ok))
 
   pub marks-wrong : marksOk mostMarks m ≡ false → Reading mostMarks t (refused 1 0)
   unfolding judge
   marks-wrong bad = faulty-at t marks 0 1 (omega arith) (rw (number-first t 0 h, ← e, bad))
 
--- what the combinations have of their own adds up
-addable : (m : ℕ) (own : List ℕ) (f : ℕ → ℕ) → 2 ^ m ≤ length own → ((c : ℕ) → c < 2 ^ m → entry own c ≡ f c) → sum (2 ^ m) f < 2 ^ 32 → Addable m own
-addable m own f l told h = record { long = l; sum = omega (arith, sumIn-all m (entry own), sum-ext (2 ^ m) (entry own) f told) }
+-- what was read up to the held section, and in all
+abbrev pub middle : ℕ → List ℕ → Record
+middle m outs = withOwn Class (entry outs) (opened m)
 
-pub outs-addable : (m : ℕ) (own : List ℕ) (cls : ℕ → Bool) → m ≤ 5 → 2 ^ m ≤ length own → ((c : ℕ) → c < 2 ^ m → entry own c ≡ outOf cls c) → Addable m own
-outs-addable m own cls few l told =
-    addable m own (outOf cls) l told
-    (omega (arith, combinations-fit m few, sum-le (2 ^ m) (outOf cls) (λ c. 1) (λ c lc. only-le (not (cls c)) 1), sum-ones (2 ^ m)))
+abbrev pub whole : ℕ → List ℕ → List ℕ → Record
+whole m outs times = withOwn Held (entry times) (middle m outs)
 
-pub times-addable : (m : ℕ) (own : List ℕ) (cls : ℕ → Bool) (f : ℕ → ℕ) (t : List ℕ) → 2 ^ m ≤ length own → ((c : ℕ) → c < 2 ^ m → entry own c ≡ f c)
-    → Bytes t → Reading mostMarks t (good (about m cls f)) → Addable m own
-times-addable m own cls f t l told b r = addable m own f l told (omega (arith, taken t b r .storable .most-held))
+pub before-class : (m : ℕ) → Before Class m (opened m)
+before-class m = record { marks = refl; none = λ c. refl; nothing-held = sum-zero (2 ^ m) }
 
-pub answered : (m : ℕ) (cls : ℕ → Bool) (f : ℕ → ℕ) (outs times : List ℕ) {s : Sheet} → s ≡ sheetFrom entries m (entry outs) (entry times)
-    → ((c : ℕ) → c < 2 ^ m → entry outs c ≡ outOf cls c) → ((c : ℕ) → c < 2 ^ m → entry times c ≡ f c)
-    → _≡_ {A = Read} (record { number = 0; place = 0; sheet = s }) (readOf entries (good (about m cls f)))
-answered m cls f outs times e told held =
-    ap (λ (y : Sheet). record { number = 0; place = 0; sheet = y }) (e ∙ sheet-same entries m (entry outs) (outOf cls) (entry times) f told held)
+pub before-held : (m : ℕ) (outs : List ℕ) → Before Held m (middle m outs)
+before-held m outs = record { marks = refl; none = λ c. refl; nothing-held = sum-zero (2 ^ m) }
+
+module _ (m : ℕ) (outs times : List ℕ) where
+  times-told : (c : ℕ) → c < 2 ^ m → entry times c ≡ whole m outs times .times c
+  times-told c l = ap (λ (b : Bool). only b (entry times c)) (sym (lt-ltb c (2 ^ m) l))
+
+  -- a count of its own is 1 outside the class, and 0 in it
+  module _ (ones : (c : ℕ) → c < 2 ^ m → entry outs c ≤ 1) where
+    outs-told : (c : ℕ) → c < 2 ^ m → entry outs c ≡ outOf (whole m outs times .class) c
+    outs-told c l =
+        mark (λ x. x ≡ only (not (eqb x 0)) 1) (entry outs c) (omega (arith, ones c l)) refl refl
+        ∙ ap (λ (b : Bool). only (not (b && eqb (entry outs c) 0)) 1) (sym (lt-ltb c (2 ^ m) l))
+
+    pub outs-addable : m ≤ mostMarks → 2 ^ m ≤ length outs → Addable m outs
+    outs-addable few long = record {
+      long = long;
+      sum = omega (arith, sumIn-all m (entry outs), combinations-fit m few, sum-le (2 ^ m) (entry outs) (λ c. 1) ones, sum-ones (2 ^ m));
+    }
+
+    pub answered : {s : Sheet} → s ≡ sheetFrom entries m (entry outs) (entry times)
+        → _≡_ {A = Read} (record { number = 0; place = 0; sheet = s }) (readOf entries (good (whole m outs times)))
+    answered e =
+        ap (λ (y : Sheet). record { number = 0; place = 0; sheet = y })
+        (e ∙ sheet-same entries m (entry outs) (outOf (whole m outs times .class)) (entry times) (whole m outs times .times) outs-told times-told)
+
+  pub times-addable : {t : List ℕ} → 2 ^ m ≤ length times → Bytes t → Reading mostMarks t (good (whole m outs times)) → Addable m times
+  times-addable {t} long b r = record {
+    long = long;
+    sum = omega (arith, sumIn-all m (entry times), sum-ext (2 ^ m) (entry times) (whole m outs times .times) times-told, is-form t b r .storable .most-held);
+  }

@@ -1,69 +1,73 @@
 -- What the parts of the reader tell each other. t is all the bytes, and `at` an offset.
 use Prim.Native.Nat.{ℕ, _+_, _^_, _≤_, _<_}
 use mathlib.Core.Path.{_≡_}
-use mathlib.Core.Bool.{Bool, true, false}
+use mathlib.Core.Bool.{true, false, _&&_}
 use mathlib.Core.List.{List}
-use lib.ListN.{length, getD, take, drop}
+use lib.Dec.{eqb, ltb}
+use lib.ListN.{length, take, drop}
+use Rattle.boxes.specs.Sums.{only}
 use Rattle.tables.specs.Tables.{entry}
-use Rattle.sheet.specs.Limits.{mostMarks}
-use Rattle.sheet.specs.Record.{Record, outOf}
-use Rattle.stored.specs.Fields.{number, Next, due, end, class-count, held-count, class-of, held-of, Outcome, refused, Run}
-use Rattle.reading.specs.declared.fields.Count.{Count}
-use Rattle.reading.specs.declared.Section.{Section}
+use Rattle.sheet.specs.Limits.{mostMarks, mostHeld}
+use Rattle.sheet.specs.Record.{Record}
+use Rattle.stored.specs.Sections.{standsIn, heldIn}
+use Rattle.stored.specs.Fields.{numberIn, Next, due, count, sectionsDue, entriesDue, Outcome, refused, Run}
+use Rattle.stored.specs.declared.Section.{Section}
+use Rattle.stored.specs.declared.Section.the-variants.{Class, Held}
+use Rattle.reading.specs.declared.fields.Field.{Field}
+use Rattle.reading.specs.declared.sections.Part.{Part}
 
 -- the number in the k bytes at an offset
 abbrev pub numberAt : List ℕ → ℕ → ℕ → ℕ
-numberAt t at k = number (take k (drop at t))
+numberAt t at k = numberIn (take k (drop at t))
 
--- a combination not below `low`, and below `size`, stands at an offset
-pub record Stands (t : List ℕ) (at low size : ℕ) : Type 0 where
-  pub inside : at < length t
-  pub not-below : low ≤ getD t at 0
-  pub below : getD t at 0 < size
-
--- a section's count of at most `size` combinations
-pub data CountRead (t : List ℕ) (at size : ℕ) : Count → Type 0 where
-  early : {c : Count} → c .good ≡ false → length t < at + 2 → c .at ≡ length t → CountRead t at size c
-  many : {c : Count} → c .good ≡ false → at + 2 ≤ length t → size < numberAt t at 2 → c .at ≡ at → CountRead t at size c
-  fits : {c : Count} → c .good ≡ true → at + 2 ≤ length t → c .n ≡ numberAt t at 2 → c .n ≤ size → c .at ≡ at + 2 → CountRead t at size c
+-- a field of k bytes at an offset, whose number is to be `low` to `high`
+pub data FieldRead (t : List ℕ) (at k low high : ℕ) : Field → Type 0 where
+  early : {f : Field} → f .good ≡ false → length t < at + k → f .at ≡ length t → FieldRead t at k low high f
+  faulty : {f : Field} → f .good ≡ false → at + k ≤ length t → numberAt t at k < 256 ^ k → (low ≤ numberAt t at k → numberAt t at k ≤ high → ⊥) → f .at ≡ at
+      → FieldRead t at k low high f
+  fits : {f : Field} → f .good ≡ true → at + k ≤ length t → f .number ≡ numberAt t at k → f .number < 256 ^ k → low ≤ f .number → f .number ≤ high → f .at ≡ at + k
+      → FieldRead t at k low high f
 
 -- the run over the bytes from one field at an offset leads to another
 pub record Leads (t : List ℕ) (s : Next) (at : ℕ) (u : Next) (next : ℕ) : Type 0 where
   pub on : (o : Outcome) → Run mostMarks u next (drop next t) o → Run mostMarks s at (drop at t) o
 
--- What was read of a section up to an offset: v, and the run leads from `from x` to `to x v`, where x is the rest of the record, whatever that is.
--- `view v c` is what the combination c has of its own.
-pub record Got (t : List ℕ) (m : ℕ) {X Y : Type 0} (view : Y → ℕ → ℕ) (from : X → Next) (start : ℕ) (to : X → Y → Next) (own : List ℕ) (at : ℕ) : Type 0 where
+-- of a section: the least number behind a combination, and the most that a combination has of its own
+abbrev pub least : Section → ℕ
+least Class = 0
+least Held = 1
+
+abbrev pub mostOwn : Section → ℕ
+mostOwn Class = 1
+mostOwn Held = mostHeld
+
+-- the record that has in a section what the combinations have of their own: those in the class have 0, and the others their seconds
+abbrev pub withOwn : Section → (ℕ → ℕ) → Record → Record
+withOwn Class f r = record { marks = r .marks; class = λ c. ltb c (2 ^ r .marks) && eqb (f c) 0; times = r .times }
+withOwn Held f r = record { marks = r .marks; class = r .class; times = λ c. only (ltb c (2 ^ r .marks)) (f c) }
+
+-- what can be read before a section: nothing of it, and nothing held
+pub record Before (s : Section) (m : ℕ) (r : Record) : Type 0 where
+  pub marks : r .marks ≡ m
+  pub none : (c : ℕ) → standsIn s r c ≡ false
+  pub nothing-held : heldIn r ≡ 0
+
+-- What was read of a section up to an offset. The run leads there from `from`, whatever was read before it and whichever sections follow.
+pub record Got (t : List ℕ) (s : Section) (m : ℕ) (from to : List Section → Record → Next) (start : ℕ) (own : List ℕ) (at : ℕ) : Type 0 where
   pub inside : at ≤ length t
   pub long : 2 ^ m ≤ length own
-  pub value : Y
-  pub told : (c : ℕ) → c < 2 ^ m → entry own c ≡ view value c
-  pub leads : (x : X) → Leads t (from x) start (to x value) at
+  pub most : (c : ℕ) → c < 2 ^ m → entry own c ≤ mostOwn s
+  pub leads : (rest : List Section) (r : Record) → Before s m r → Leads t (from rest r) start (to rest (withOwn s (entry own) r)) at
 
--- a section: refused with 10 and the place, or read
-pub data SectionRead (t : List ℕ) (m : ℕ) {X Y : Type 0} (view : Y → ℕ → ℕ) (from : X → Next) (start : ℕ) (to : X → Y → Next) : Section → Type 0 where
-  bad : {p : Section} → p .good ≡ false → ((x : X) → Run mostMarks (from x) start (drop start t) (refused 10 (p .at))) → SectionRead t m view from start to p
-  good : {p : Section} → p .good ≡ true → Got t m view from start to (p .own) (p .at) → SectionRead t m view from start to p
+-- a part of the form: refused with 10 and the place, or read
+pub data PartRead (t : List ℕ) (s : Section) (m : ℕ) (from : List Section → Record → Next) (start : ℕ) : Part → Type 0 where
+  bad : {p : Part} → p .good ≡ false → ((rest : List Section) (r : Record) → Before s m r → Run mostMarks (from rest r) start (drop start t) (refused 10 (p .at)))
+      → PartRead t s m from start p
+  good : {p : Part} → p .good ≡ true → Got t s m from sectionsDue start (p .own) (p .at) → PartRead t s m from start p
 
-abbrev pub about : ℕ → (ℕ → Bool) → (ℕ → ℕ) → Record
-about m cls ts = record { marks = m; class = cls; times = ts }
+-- the n combinations behind a count, and the whole section
+abbrev pub EntriesRead : List ℕ → Section → ℕ → ℕ → ℕ → Part → Type 0
+EntriesRead t s m n start p = PartRead t s m (λ (rest : List Section) (r : Record). entriesDue s rest r n 0) start p
 
--- the class section: all of it, and the n combinations behind its count
-abbrev pub classTo : ℕ → (ℕ → ℕ) → (ℕ → Bool) → Next
-classTo m ts cls = due (held-count (about m cls ts))
-
-abbrev pub ClassRead : List ℕ → ℕ → ℕ → Section → Type 0
-ClassRead t m at p = SectionRead t m outOf (λ (ts : ℕ → ℕ). due (class-count (about m (λ c. false) ts))) at (classTo m) p
-
-abbrev pub ClassListRead : List ℕ → ℕ → ℕ → ℕ → Section → Type 0
-ClassListRead t m n at p = SectionRead t m outOf (λ (ts : ℕ → ℕ). class-of (about m (λ c. false) ts) n 0) at (classTo m) p
-
--- the held section likewise
-abbrev pub heldTo : ℕ → (ℕ → Bool) → (ℕ → ℕ) → Next
-heldTo m cls ts = end (about m cls ts)
-
-abbrev pub HeldRead : List ℕ → ℕ → ℕ → Section → Type 0
-HeldRead t m at p = SectionRead t m (λ (ts : ℕ → ℕ). ts) (λ (cls : ℕ → Bool). due (held-count (about m cls (λ c. 0)))) at (heldTo m) p
-
-abbrev pub HeldListRead : List ℕ → ℕ → ℕ → ℕ → Section → Type 0
-HeldListRead t m n at p = SectionRead t m (λ (ts : ℕ → ℕ). ts) (λ (cls : ℕ → Bool). held-of (about m cls (λ c. 0)) n 0 0) at (heldTo m) p
+abbrev pub SectionRead : List ℕ → Section → ℕ → ℕ → Part → Type 0
+SectionRead t s m start p = PartRead t s m (λ (rest : List Section) (r : Record). due (count s rest r)) start p

@@ -4,19 +4,12 @@ ghost use Rattle.sheet.specs.Limits.{mostMarks, entries};
 ghost use Rattle.stored.specs.Answers.{readOf, Reads};
 ghost use Rattle.stored.specs.Fields.{refused as refusal};
 
-mod class;
 mod fields;
-mod held;
+mod sections;
 
 use sheet::Sheet;
 use stored::Read;
-
-// A section that was read: what each combination has of its own, and where the next field stands; or, if it is not good, the place.
-pub struct Section {
-    pub good: bool,
-    pub at: usize,
-    pub own: [u32; 32],
-}
+use stored::Section;
 
 fn refused(number: u64, place: usize) -> Read
     ensures { λ r. ⌜ r ≡ readOf entries (refusal number place) ⌝ }
@@ -28,31 +21,32 @@ fn refused(number: u64, place: usize) -> Read
     }
 }
 
+// The sheet worked out from what was read, or the number of a refusal with the place.
 pub fn read(bytes: &[u8]) -> Read
     ensures { λ r. ⌜ Reads mostMarks entries (now (bytes .entry)) r ⌝ }
 {
     if bytes.len() == 0 {
         return refused(10, 0);
     }
-    let m = fields::wide(bytes[0]);
+    let m = ground::byte(bytes[0]);
     if !sheet::marks_ok(m) {
         return refused(1, 0);
     }
-    let first = class::section(bytes, 1, m);
-    let middle = first.at;
-    if !first.good {
+    let class = sections::read(bytes, 1, m, Section::Class);
+    let middle = class.at;
+    if !class.good {
         return refused(10, middle);
     }
-    let second = held::section(bytes, middle, m);
-    let end = second.at;
-    if !second.good {
+    let held = sections::read(bytes, middle, m, Section::Held);
+    let end = held.at;
+    if !held.good {
         return refused(10, end);
     }
     if end < bytes.len() {
         return refused(10, end);
     }
-    let outs = first.own;
-    let times = second.own;
+    let outs = class.own;
+    let times = held.own;
     Read {
         number: 0,
         place: 0,

@@ -1,150 +1,141 @@
 -- The form of a record is read as that record, with nothing at 2^m and above. A section goes by induction on the combinations scanned, whatever bytes
--- follow it: the states S of the run go from what is taken below n to what is taken below n + 1.
+-- follow it: the run goes from the record that has of the section what is below n to that of what is below n + 1.
 use Prim.Native.Nat.{ℕ, zero, suc, _+_, _^_, _≤_, _<_}
-use mathlib.Core.Path.{_≡_, refl, sym, ap, ap₂, _∙_, subst}
+use mathlib.Core.Path.{_≡_, refl, sym, ap, _∙_, subst}
 use mathlib.Core.Bool.{Bool, true, false, cond}
-use mathlib.Core.List.{List, [], _∷_, _++_, append-assoc, append-nil}
+use mathlib.Core.List.{List, [], _∷_, _++_, append-assoc}
 use native.Mathlib.Nat.{add-zero, zero-add, pow-le-pow-right}
 use native.Mathlib.Omega.{arith}
-use lib.ListN.{length, take, drop, length-append}
+use lib.ListN.{length, length-append}
+use lib.Dec.{ltb}
 use borrow.Author.Tests.{le-leb, lt-ltb, ltb-true, ltb-false}
 use Rattle.boxes.specs.Sums.{sum, only}
-use Rattle.ground.proofs.Cases.{below-or}
+use Rattle.boxes.proofs.Sums.{sum-change, sum-le, sum-term, only-le}
 use Rattle.sheet.specs.Limits.{mostHeld}
 use Rattle.sheet.specs.Record.{Record, opened}
 use Rattle.sheet.specs.Sound.{sizeOf}
 use Rattle.sheet.proofs.Tests.{marks-most}
-use Rattle.stored.specs.Fields.{number, put, Due, marks, class-count, class, held-count, held, seconds, Next, due, end, class-of, held-of, judge, width, Outcome, good, Run, done, Reading}
-use Rattle.stored.specs.Form.{bytes, listed, section, alone, isHeld, withSeconds, form}
-use Rattle.stored.proofs.UpTo.{upTo, upTo-none, upTo-skip, upTo-put}
+use Rattle.stored.specs.Sections.{sections, bytesBehind, standsIn, numberBehind, heldIn, mayStand, updated, added}
+use Rattle.stored.specs.Fields.{marks, count as count-due, combination, behind, due, sectionsDue, entriesDue, judge, Outcome, good, Run, done, Reading}
+use Rattle.stored.specs.Form.{bytes, listed, entryOf, section, sectionsOf, form}
+use Rattle.stored.specs.declared.Section.{Section}
+use Rattle.stored.specs.declared.Section.the-variants.{Class, Held}
+use Rattle.stored.proofs.UpTo.{upTo, upTo-none, upTo-low, upTo-high, upTo-next, upTo-skip, upTo-updated}
 use Rattle.stored.proofs.Runs.{goes}
 use Rattle.stored.proofs.Numbers.{number-front, drop-front, number-one, bytes-length}
 use Rattle.stored.proofs.Listed.{count, count-le}
-use Rattle.stored.proofs.Taken.{Storable}
+use Rattle.stored.proofs.IsForm.{Storable}
+
+-- q with what r has in the section below n
+abbrev below : Section → ℕ → Record → Record → Record
+below Class n r q = record { marks = q .marks; class = upTo false n (r .class); times = q .times }
+below Held n r q = record { marks = q .marks; class = q .class; times = upTo 0 n (r .times) }
+
+below-marks : (s : Section) (n : ℕ) (r q : Record) → below s n r q .marks ≡ q .marks
+below-marks Class n r q = refl
+below-marks Held n r q = refl
+
+below-skip : (s : Section) (n : ℕ) (r q : Record) → standsIn s r n ≡ false → below s n r q ≡ below s (suc n) r q
+below-skip Class n r q e = ap (λ (f : ℕ → Bool). record { marks = q .marks; class = f; times = q .times }) (upTo-skip false (r .class) n e)
+below-skip Held n r q e =
+    ap (λ (f : ℕ → ℕ). record { marks = q .marks; class = q .class; times = f }) (upTo-skip 0 (r .times) n (omega (arith, ltb-false 0 (r .times n) e)))
+
+below-added : (s : Section) (n : ℕ) (r q : Record) → standsIn s r n ≡ true → added s (below s n r q) n (numberBehind s r n) ≡ below s (suc n) r q
+below-added Class n r q e =
+    ap (λ (f : ℕ → Bool). record { marks = q .marks; class = f; times = q .times })
+    (ap (λ (v : Bool). updated n v (upTo false n (r .class))) (sym e) ∙ upTo-updated false (r .class) n)
+below-added Held n r q e = ap (λ (f : ℕ → ℕ). record { marks = q .marks; class = q .class; times = f }) (upTo-updated 0 (r .times) n)
+
+-- the seconds below n and those of n are at most all of them
+upTo-le : (f : ℕ → ℕ) (n x : ℕ) → upTo 0 n f x ≤ f x
+upTo-le f n x = only-le (ltb x n) (f x)
+
+below-held : (f : ℕ → ℕ) (N n : ℕ) → n < N → sum N (upTo 0 n f) + f n ≤ sum N f
+below-held f N n h =
+    let grown = sum-change N (upTo 0 n f) (upTo 0 (suc n) f) n (f n) h (λ y ly d. sym (upTo-next 0 f n y d))
+    (omega (arith, upTo-low 0 f (suc n) n (omega arith), upTo-high 0 f n n (omega arith))) in
+    omega (arith, grown, sum-le N (upTo 0 (suc n) f) f (λ y ly. upTo-le f (suc n) y))
+
+-- what is behind a combination may stand there, and fits its bytes
+may-stand : (s : Section) (n : ℕ) (r q : Record) → q .marks ≡ r .marks → n < 2 ^ r .marks → heldIn r ≤ mostHeld → standsIn s r n ≡ true
+    → mayStand s (heldIn (below s n r q)) (numberBehind s r n) ≡ true
+may-stand Class n r q em h most e = refl
+may-stand Held n r q em h most e =
+    let v = r .times n in
+    let so-far = sum (2 ^ q .marks) (upTo 0 n (r .times)) in
+    let fits : so-far + v ≤ mostHeld = omega (arith, below-held (r .times) (2 ^ r .marks) n h, ap (λ (m : ℕ). sum (2 ^ m) (upTo 0 n (r .times))) em) in
+    rw (le-leb 1 v (ltb-true 0 v e), le-leb (so-far + v) mostHeld fits)
+
+behind-fits : (s : Section) (n : ℕ) (r : Record) → n < 2 ^ r .marks → heldIn r ≤ mostHeld → numberBehind s r n < 256 ^ bytesBehind s
+behind-fits Class n r h most = omega arith
+behind-fits Held n r h most = omega (arith, sum-term (2 ^ r .marks) (r .times) n h)
 
 -- any section
-module _ (most N : ℕ) (o : Outcome) (p : ℕ → Bool) (f : ℕ → List ℕ) (S : ℕ → ℕ → ℕ → Next)
-    (skip : (n k low : ℕ) → p n ≡ false → S n k low ≡ S (suc n) k low)
-    (takes : (n k low at : ℕ) (l : List ℕ) → n < N → low ≤ n → p n ≡ true → ((a : ℕ) → Run most (S (suc n) k (n + 1)) a l o) → Run most (S n (suc k) low) at (f n ++ l) o) where
-  turn : (n k : ℕ) (l : List ℕ) → n < N → ((a low : ℕ) → low ≤ suc n → Run most (S (suc n) k low) a l o) → (b : Bool) → p n ≡ b → (at low : ℕ) → low ≤ n
-      → Run most (S n (only b 1 + k) low) at (cond b (f n) [] ++ l) o
+module _ (most : ℕ) (o : Outcome) (s : Section) (rest : List Section) (r q : Record) (em : q .marks ≡ r .marks) (held : heldIn r ≤ mostHeld) where
+  entry-back : (n k low at : ℕ) (l : List ℕ) → n < 2 ^ r .marks → low ≤ n → standsIn s r n ≡ true
+      → ((a : ℕ) → Run most (entriesDue s rest (below s (suc n) r q) k (n + 1)) a l o) → Run most (entriesDue s rest (below s n r q) (suc k) low) at (entryOf s r n ++ l) o
+  unfolding judge
+  entry-back n k low at l h hl e next =
+      let b = below s n r q in
+      let w = bytesBehind s in
+      let x = numberBehind s r n in
+      let inside : n < 2 ^ b .marks = omega (arith, ap (λ (m : ℕ). 2 ^ m) (below-marks s n r q ∙ em)) in
+      goes (combination s rest b k low) (n ∷ (bytes w x ++ l)) (due (behind s rest b k n)) (omega arith)
+      (rw (number-one n (bytes w x ++ l), le-leb low n hl, lt-ltb n (2 ^ b .marks) inside))
+      (goes (behind s rest b k n) (bytes w x ++ l) (entriesDue s rest (below s (suc n) r q) k (n + 1)) (omega (arith, length-append (bytes w x) l, bytes-length w x))
+      (rw (number-front w x l (behind-fits s n r h held), may-stand s n r q em h held e) (ap (λ (u : Record). entriesDue s rest u k (n + 1)) (below-added s n r q e)))
+      (rw (drop-front w x l) (next (at + 1 + w))))
+
+  turn : (n k : ℕ) (l : List ℕ) → n < 2 ^ r .marks → ((a low : ℕ) → low ≤ suc n → Run most (entriesDue s rest (below s (suc n) r q) k low) a l o) → (b : Bool)
+      → standsIn s r n ≡ b → (at low : ℕ) → low ≤ n → Run most (entriesDue s rest (below s n r q) (only b 1 + k) low) at (cond b (entryOf s r n) [] ++ l) o
   turn n k l h next true e at low hl =
-      let q : suc k ≡ 1 + k = omega arith in
-      subst (λ (j : ℕ). Run most (S n j low) at (f n ++ l) o) q (takes n k low at l h hl e (λ a. next a (n + 1) (omega arith)))
-  turn n k l h next false e at low hl =
-      subst (λ (j : ℕ). Run most (S n j low) at l o) (sym (zero-add k))
-      (subst (λ (s : Next). Run most s at l o) (sym (skip n k low e)) (next at low (omega arith)))
+      let one : 1 + k ≡ suc k = omega arith in
+      rw one (entry-back n k low at l h hl e (λ a. next a (n + 1) (omega arith)))
+  turn n k l h next false e at low hl = rw (zero-add k, below-skip s n r q e) (next at low (omega arith))
 
-  pub section-back : (n k : ℕ) (l : List ℕ) → n ≤ N → ((a low : ℕ) → low ≤ n → Run most (S n k low) a l o) → (at : ℕ)
-      → Run most (S 0 (count p n + k) 0) at (listed p f n ++ l) o
+  entries-back : (n k : ℕ) (l : List ℕ) → n ≤ 2 ^ r .marks → ((a low : ℕ) → low ≤ n → Run most (entriesDue s rest (below s n r q) k low) a l o) → (at : ℕ)
+      → Run most (entriesDue s rest (below s 0 r q) (count (standsIn s r) n + k) 0) at (listed (standsIn s r) (entryOf s r) n ++ l) o
   unfolding listed sum
-  section-back zero k l h next at = subst (λ (j : ℕ). Run most (S 0 j 0) at l o) (sym (zero-add k)) (next at 0 (omega arith))
-  section-back (suc n) k l h next at =
-      let i = section-back n (only (p n) 1 + k) (cond (p n) (f n) [] ++ l) (omega arith) (turn n k l (omega arith) next (p n) refl) at in
-      let e : count p n + (only (p n) 1 + k) ≡ count p n + only (p n) 1 + k = omega arith in
-      subst (λ (j : ℕ). Run most (S 0 j 0) at ((listed p f n ++ cond (p n) (f n) []) ++ l) o) e
-      (subst (λ (x : List ℕ). Run most (S 0 (count p n + (only (p n) 1 + k)) 0) at x o) (sym (append-assoc (listed p f n) (cond (p n) (f n) []) l)) i)
+  entries-back zero k l h next at = rw (zero-add k) (next at 0 (omega arith))
+  entries-back (suc n) k l h next at =
+      let b = standsIn s r n in
+      let i = entries-back n (only b 1 + k) (cond b (entryOf s r n) [] ++ l) (omega arith) (turn n k l (omega arith) next b refl) at in
+      let e : count (standsIn s r) n + only b 1 + k ≡ count (standsIn s r) n + (only b 1 + k) = omega arith in
+      rw (e, append-assoc (listed (standsIn s r) (entryOf s r) n) (cond b (entryOf s r n) []) l) i
 
-sum-grows : (f : ℕ → ℕ) (n N : ℕ) → n ≤ N → sum n f ≤ sum N f
-unfolding sum
-sum-grows f n zero h = let e : n ≡ 0 = omega arith in subst (λ (j : ℕ). sum j f ≤ sum 0 f) (sym e) (omega arith)
-sum-grows f n (suc N) h =
-    below-or N n
-    (λ l. let e : suc N ≡ n = omega arith in subst (λ (j : ℕ). sum j f ≤ sum (suc N) f) e (omega arith))
-    (λ l. omega (arith, sum-grows f n N l))
+  section-back : r .marks ≤ 15 → (l : List ℕ) → ((a : ℕ) → Run most (sectionsDue rest (below s (2 ^ r .marks) r q)) a l o) → (at : ℕ)
+      → Run most (sectionsDue (s ∷ rest) (below s 0 r q)) at (section s r ++ l) o
+  unfolding judge
+  section-back few l next at =
+      let N = 2 ^ r .marks in
+      let n = sizeOf (r .marks) (standsIn s r) in
+      let list = listed (standsIn s r) (entryOf s r) N in
+      let b = below s 0 r q in
+      let inside : n ≤ 2 ^ b .marks = omega (arith, count-le (standsIn s r) N, ap (λ (m : ℕ). 2 ^ m) (below-marks s 0 r q ∙ em)) in
+      let small : n < 256 ^ 2 = omega (arith, count-le (standsIn s r) N, pow-le-pow-right {n = 2} (omega arith) {i = r .marks} {j = 15} few) in
+      let i = entries-back N 0 l (omega arith) (λ a low h. next a) (at + 2) in
+      rw (append-assoc (bytes 2 n) list l)
+      (goes (count-due s rest b) (bytes 2 n ++ (list ++ l)) (entriesDue s rest b n 0) (omega (arith, length-append (bytes 2 n) (list ++ l), bytes-length 2 n))
+      (rw (number-front 2 n (list ++ l) small, le-leb n (2 ^ b .marks) inside))
+      (rw (drop-front 2 n (list ++ l)) (subst (λ (k : ℕ). Run most (entriesDue s rest b k 0) (at + 2) (list ++ l) o) (add-zero n) i)))
 
 -- the record without what is at 2^m and above
 abbrev pub cut : Record → Record
 cut r = record { marks = r .marks; class = upTo false (2 ^ r .marks) (r .class); times = upTo 0 (2 ^ r .marks) (r .times) }
 
-module _ (most : ℕ) (r : Record) (o : Outcome) where
-  -- the run behind the combinations below n
-  class-below : ℕ → Record
-  class-below n = record { marks = r .marks; class = upTo false n (r .class); times = λ c. 0 }
-
-  held-below : ℕ → Record
-  held-below n = record { marks = r .marks; class = upTo false (2 ^ r .marks) (r .class); times = upTo 0 n (r .times) }
-
-  class-back : (l : List ℕ) → ((a : ℕ) → Run most (due (held-count (class-below (2 ^ r .marks)))) a l o) → (at : ℕ)
-      → Run most (class-of (opened (r .marks)) (sizeOf (r .marks) (r .class)) 0) at (listed (r .class) alone (2 ^ r .marks) ++ l) o
-  unfolding judge class-below
-  class-back l next at =
-      let N = 2 ^ r .marks in
-      let p = r .class in
-      let x = section-back most N o p alone (λ n k low. class-of (class-below n) k low)
-      (λ n k low e. ap (λ (g : ℕ → Bool). class-of (record { marks = r .marks; class = g; times = λ c. 0 }) k low) (upTo-skip false p n e))
-      (λ n k low a l₁ h hl e next₁.
-      goes (class (class-below n) k low) (n ∷ l₁) (class-of (class-below (suc n)) k (n + 1)) (omega arith)
-      (rw (number-one n l₁, le-leb low n hl, lt-ltb n N h)
-      (ap (λ (g : ℕ → Bool). class-of (record { marks = r .marks; class = g; times = λ c. 0 }) k (n + 1))
-      (ap (λ (v : Bool). put n v (upTo false n p)) (sym e) ∙ upTo-put false p n)))
-      (next₁ (a + 1)))
-      N 0 l (omega arith) (λ a low h. next a) at in
-      subst (λ (j : ℕ). Run most (class-of (opened (r .marks)) j 0) at (listed p alone N ++ l) o) (add-zero (count p N))
-      (subst (λ (g : ℕ → Bool). Run most (class-of (record { marks = r .marks; class = g; times = λ c. 0 }) (count p N + 0) 0) at (listed p alone N ++ l) o)
-      (upTo-none false p) x)
-
-  held-back : sum (2 ^ r .marks) (r .times) ≤ mostHeld → ((a : ℕ) → Run most (end (held-below (2 ^ r .marks))) a [] o) → (at : ℕ)
-      → Run most (held-of (class-below (2 ^ r .marks)) (sizeOf (r .marks) (isHeld (r .times))) 0 0) at (listed (isHeld (r .times)) (withSeconds (r .times)) (2 ^ r .marks)) o
-  unfolding judge class-below held-below sum
-  held-back most-held next at =
-      let N = 2 ^ r .marks in
-      let f = r .times in
-      let g = upTo false N (r .class) in
-      let state : (ℕ → ℕ) → ℕ → ℕ → ℕ → Next = λ t k low s. held-of (record { marks = r .marks; class = g; times = t }) k low s in
-      let x = section-back most N o (isHeld f) (withSeconds f) (λ n k low. state (upTo 0 n f) k low (sum n f))
-      (λ n k low e.
-      let z : f n ≡ 0 = omega (arith, ltb-false 0 (f n) e) in
-      let same : sum n f ≡ sum n f + f n = omega arith in
-      ap₂ (λ (t : ℕ → ℕ) (s : ℕ). state t k low s) (upTo-skip 0 f n z) same)
-      (λ n k low a l h hl e next₁.
-      let v = f n in
-      let fits : sum n f + v ≤ mostHeld = omega (arith, sum-grows f (suc n) N h) in
-      let some : 1 ≤ v = ltb-true 0 v e in
-      goes (held (held-below n) k low (sum n f)) (n ∷ (bytes 4 v ++ l)) (due (seconds (held-below n) k n (sum n f))) (omega arith)
-      (rw (number-one n (bytes 4 v ++ l), le-leb low n hl, lt-ltb n N h))
-      (goes (seconds (held-below n) k n (sum n f)) (bytes 4 v ++ l) (state (upTo 0 (suc n) f) k (n + 1) (sum n f + v))
-      (omega (arith, length-append (bytes 4 v) l, bytes-length 4 v))
-      (rw (number-front 4 v l (omega arith), le-leb 1 v some, le-leb (sum n f + v) mostHeld fits)
-      (ap (λ (t : ℕ → ℕ). state t k (n + 1) (sum n f + v)) (upTo-put 0 f n)))
-      (subst (λ (y : List ℕ). Run most (state (upTo 0 (suc n) f) k (n + 1) (sum n f + v)) (a + 1 + 4) y o) (sym (drop-front 4 v l)) (next₁ (a + 1 + 4)))))
-      N 0 [] (omega arith) (λ a low h. next a) at in
-      subst (λ (y : List ℕ). Run most (state (λ c. 0) (count (isHeld f) N) 0 0) at y o) (append-nil (listed (isHeld f) (withSeconds f) N))
-      (subst (λ (j : ℕ). Run most (state (λ c. 0) j 0 0) at (listed (isHeld f) (withSeconds f) N ++ []) o) (add-zero (count (isHeld f) N))
-      (subst (λ (t : ℕ → ℕ). Run most (state t (count (isHeld f) N + 0) 0 0) at (listed (isHeld f) (withSeconds f) N ++ []) o) (upTo-none 0 f) x))
-
--- a count in front of its section
-module _ (most : ℕ) (o : Outcome) (m : ℕ) (few : m ≤ 15) (p : ℕ → Bool) (l : List ℕ) (at : ℕ) where
-  small : (sizeOf m p ≤ 2 ^ m) × (sizeOf m p < 256 ^ 2)
-  small = (count-le p (2 ^ m), omega (arith, count-le p (2 ^ m), pow-le-pow-right {n = 2} (omega arith) {i = m} {j = 15} few))
-
-  counted : (d : Due) (s : Next) → width d ≡ 2 → judge most d (sizeOf m p) ≡ s → Run most s (at + 2) l o → Run most (due d) at (bytes 2 (sizeOf m p) ++ l) o
-  counted d s w e x =
-      let n = sizeOf m p in
-      let t = bytes 2 n ++ l in
-      let long : 2 ≤ length t = omega (arith, length-append (bytes 2 n) l, bytes-length 2 n) in
-      goes d t s (omega arith)
-      (ap (λ (k : ℕ). judge most d (number (take k t))) w ∙ ap (judge most d) (number-front 2 n l (small .1)) ∙ e)
-      (subst (λ (k : ℕ). Run most s (at + k) (drop k t) o) (sym w) (subst (λ (y : List ℕ). Run most s (at + 2) y o) (sym (drop-front 2 n l)) x))
-
--- what is written of a record is read as it, without what is at 2^m and above
+-- what is written of a record is read as it, without that
 pub reads-back : {most : ℕ} (r : Record) → most ≤ 15 → Storable most r → Reading most (form r) (good (cut r))
-unfolding judge form class-below held-below
-reads-back {most} r few s =
+unfolding judge form
+reads-back {most} r few st =
     let m = r .marks in
-    let N = 2 ^ m in
     let o = good (cut r) in
-    let le : m ≤ 15 = omega (arith, marks-most most m (s .marks)) in
-    let class-part = listed (r .class) alone N in
-    let held-part = listed (isHeld (r .times)) (withSeconds (r .times)) N in
-    let rest = section m (isHeld (r .times)) (withSeconds (r .times)) in
-    goes marks (form r) (due (class-count (opened m))) (omega arith) (rw (number-one m (section m (r .class) alone ++ rest), s .marks))
-    (subst (λ (y : List ℕ). Run most (due (class-count (opened m))) 1 y o) (sym (append-assoc (bytes 2 (sizeOf m (r .class))) class-part rest))
-    (counted most o m le (r .class) (class-part ++ rest) 1 (class-count (opened m)) (class-of (opened m) (sizeOf m (r .class)) 0) refl
-    (rw (le-leb (sizeOf m (r .class)) N (count-le (r .class) N)))
-    (class-back most r o rest
-    (λ a.
-    counted most o m le (isHeld (r .times)) held-part a (held-count (class-below most r o N)) (held-of (class-below most r o N) (sizeOf m (isHeld (r .times))) 0 0) refl
-    (rw (le-leb (sizeOf m (isHeld (r .times))) N (count-le (isHeld (r .times)) N)))
-    (held-back most r o (s .most-held) (λ a₁. done) (a + 2)))
-    3)))
+    let le : m ≤ 15 = omega (arith, marks-most most m (st .marks)) in
+    let q = below Class (2 ^ m) r (opened m) in
+    let start : opened m ≡ below Class 0 r (opened m) = ap (λ (f : ℕ → Bool). record { marks = m; class = f; times = λ c. 0 }) (sym (upTo-none false (r .class))) in
+    let middle : q ≡ below Held 0 r q = ap (λ (f : ℕ → ℕ). record { marks = m; class = q .class; times = f }) (sym (upTo-none 0 (r .times))) in
+    let held : (a : ℕ) → Run most (sectionsDue (Held ∷ []) q) a (section Held r ++ []) o =
+    λ a. subst (λ (u : Record). Run most (sectionsDue (Held ∷ []) u) a (section Held r ++ []) o) (sym middle)
+    (section-back most o Held [] r q refl (st .most-held) le [] (λ a₁. done) a) in
+    goes marks (form r) (sectionsDue sections (opened m)) (omega arith) (rw (number-one m (sectionsOf sections r), st .marks))
+    (subst (λ (u : Record). Run most (sectionsDue sections u) 1 (sectionsOf sections r) o) (sym start)
+    (section-back most o Class (Held ∷ []) r (opened m) refl (st .most-held) le (section Held r ++ []) held 1))

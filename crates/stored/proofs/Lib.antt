@@ -4,7 +4,8 @@ pub mod Refusals
 pub mod Settled
 pub mod Numbers
 pub mod Listed
-pub mod Taken
+pub mod Sections
+pub mod IsForm
 pub mod Back
 pub mod Trips
 pub mod Sample

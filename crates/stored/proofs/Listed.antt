@@ -2,14 +2,14 @@
 use Prim.Native.Nat.{ℕ, zero, suc, _+_, _*_, _≤_, _<_}
 use mathlib.Core.Path.{_≡_, refl, ap, ap₂, _∙_}
 use mathlib.Core.Bool.{Bool, true, false, cond}
-use mathlib.Core.List.{List, [], _++_, append-nil}
+use mathlib.Core.List.{List, [], _∷_, _++_, append-nil}
 use native.Mathlib.Numerals.{add-one}
 use native.Mathlib.Omega.{arith}
 use lib.ListN.{length, length-append}
 use Rattle.boxes.specs.Sums.{sum, only}
 use Rattle.ground.proofs.Cases.{below-or}
 use Rattle.boxes.proofs.Sums.{sum-le, sum-ones, only-le}
-use Rattle.stored.specs.Form.{listed, alone}
+use Rattle.stored.specs.Form.{listed}
 
 -- how many below n the test takes
 abbrev pub count : (ℕ → Bool) → ℕ → ℕ
@@ -47,6 +47,10 @@ listed-skip p f low (suc n) h z =
 listed-next : (p : ℕ → Bool) (f : ℕ → List ℕ) (c : ℕ) → p c ≡ true → listed p f (c + 1) ≡ listed p f c ++ f c
 unfolding listed
 listed-next p f c e = ap (listed p f) (add-one c) ∙ ap (λ (b : Bool). listed p f c ++ cond b (f c) []) e
+
+-- each written by one byte, they are as many as their bytes
+abbrev alone : ℕ → List ℕ
+alone c = c ∷ []
 
 -- q takes c besides what p takes, which is nothing from `low` on
 module _ (p q : ℕ → Bool) (low c : ℕ) (h : low ≤ c) (z : (x : ℕ) → low ≤ x → p x ≡ false) (same : (x : ℕ) → x < c → q x ≡ p x) (takes : q c ≡ true) where

@@ -2,33 +2,33 @@
 use Prim.Native.Nat.{ℕ, zero, suc, _+_, _^_}
 use mathlib.Core.Path.{_≡_, refl, sym, ap, _∙_}
 use mathlib.Core.Bool.{Bool, true, false, cond, _&&_}
-use mathlib.Core.List.{List}
+use mathlib.Core.List.{List, [], _∷_}
 use mathlib.Core.Logic.{_⊎_, inl, inr, ⊎-elim}
 use native.Mathlib.Omega.{arith}
 use lib.Dec.{leb, ltb}
-use Rattle.sheet.specs.Limits.{marksOk, mostHeld}
+use Rattle.sheet.specs.Limits.{marksOk}
 use Rattle.sheet.specs.Record.{Record}
-use Rattle.stored.specs.Fields.{entered, holding, Due, marks, class-count, class, held-count, held, seconds, Next, due, end, wrong, class-of, held-of, judge, refused, Run, over, early, faulty, field, Reading}
+use Rattle.stored.specs.Sections.{heldIn, mayStand, added}
+use Rattle.stored.specs.Fields.{Due, marks, count, combination, behind, Next, due, end, wrong, sectionsDue, entriesDue, judge, refused, Run, over, early, faulty, field, Reading}
+use Rattle.stored.specs.declared.Section.{Section}
 use Rattle.stored.proofs.Runs.{passed}
 
 -- the number that a fault there is answered with
 abbrev code : Next → ℕ
 code (due marks) = 1
-code (due (class-count r)) = 10
-code (due (class r left low)) = 10
-code (due (held-count r)) = 10
-code (due (held r left low sum)) = 10
-code (due (seconds r left c sum)) = 10
+code (due (count s rest r)) = 10
+code (due (combination s rest r left low)) = 10
+code (due (behind s rest r left c)) = 10
 code (end r) = 10
 code (wrong n) = n
 
-code-class : (r : Record) (n low : ℕ) → code (class-of r n low) ≡ 10
-code-class r zero low = refl
-code-class r (suc n) low = refl
+code-sections : (rest : List Section) (r : Record) → code (sectionsDue rest r) ≡ 10
+code-sections [] r = refl
+code-sections (s ∷ rest) r = refl
 
-code-held : (r : Record) (n low sum : ℕ) → code (held-of r n low sum) ≡ 10
-code-held r zero low sum = refl
-code-held r (suc n) low sum = refl
+code-entries : (s : Section) (rest : List Section) (r : Record) (n low : ℕ) → code (entriesDue s rest r n low) ≡ 10
+code-entries s rest r zero low = code-sections rest r
+code-entries s rest r (suc n) low = refl
 
 code-cond : (b : Bool) (s : Next) → code s ≡ 10 → code (cond b s (wrong 10)) ≡ 10
 code-cond true s e = e
@@ -37,12 +37,10 @@ code-cond false s e = refl
 code-judge : (most : ℕ) (d : Due) (n : ℕ) → code (due d) ≡ 10 → code (judge most d n) ≡ 10
 unfolding judge
 code-judge most marks n e = absurd (omega arith)
-code-judge most (class-count r) n e = code-cond (leb n (2 ^ r .marks)) (class-of r n 0) (code-class r n 0)
-code-judge most (class r left low) c e = code-cond (leb low c && ltb c (2 ^ r .marks)) (class-of (entered r c) left (c + 1)) (code-class (entered r c) left (c + 1))
-code-judge most (held-count r) n e = code-cond (leb n (2 ^ r .marks)) (held-of r n 0 0) (code-held r n 0 0)
-code-judge most (held r left low sum) c e = code-cond (leb low c && ltb c (2 ^ r .marks)) (due (seconds r left c sum)) refl
-code-judge most (seconds r left c sum) s e =
-    code-cond (leb 1 s && leb (sum + s) mostHeld) (held-of (holding r c s) left (c + 1) (sum + s)) (code-held (holding r c s) left (c + 1) (sum + s))
+code-judge most (count s rest r) n e = code-cond (leb n (2 ^ r .marks)) (entriesDue s rest r n 0) (code-entries s rest r n 0)
+code-judge most (combination s rest r left low) c e = code-cond (leb low c && ltb c (2 ^ r .marks)) (due (behind s rest r left c)) refl
+code-judge most (behind s rest r left c) x e =
+    code-cond (mayStand s (heldIn r) x) (entriesDue s rest (added s r c x) left (c + 1)) (code-entries s rest (added s r c x) left (c + 1))
 
 pub ten : {most at k p : ℕ} {s : Next} {l : List ℕ} → Run most s at l (refused k p) → code s ≡ 10 → k ≡ 10
 ten over e = refl

@@ -6,7 +6,7 @@ use mathlib.Core.List.{List, []}
 use native.Mathlib.Omega.{arith}
 use lib.ListN.{length, take, drop}
 use Rattle.sheet.specs.Record.{Record}
-use Rattle.stored.specs.Fields.{number, Due, width, Next, due, end, wrong, judge, Outcome, good, refused, Run, done, over, early, faulty, field}
+use Rattle.stored.specs.Fields.{numberIn, Due, width, Next, due, end, wrong, judge, Outcome, good, refused, Run, done, over, early, faulty, field}
 
 -- nothing goes on behind a field that was wrong
 blocked : {n : ℕ} {s : Next} → s ≡ wrong n → (s ≡ wrong n → _≡_ {A = ℕ} 0 1) → ⊥
@@ -37,7 +37,7 @@ one (field h r) (field k s) = one r s
 
 -- a good run took the field that is due
 pub took : {most : ℕ} {d : Due} {at : ℕ} {l : List ℕ} {r : Record} → Run most (due d) at l (good r)
-    → (width d ≤ length l) × Run most (judge most d (number (take (width d) l))) (at + width d) (drop (width d) l) (good r)
+    → (width d ≤ length l) × Run most (judge most d (numberIn (take (width d) l))) (at + width d) (drop (width d) l) (good r)
 took (field h x) = (h, x)
 
 -- the test that it had to pass
@@ -49,6 +49,6 @@ pub ended : {most at : ℕ} {l : List ℕ} {r q : Record} → Run most (end r) a
 ended done = (refl, refl)
 
 -- a field is taken, its judgement told otherwise (a constructor's own arguments are found too late for rw and omega)
-pub goes : {most at : ℕ} {o : Outcome} (d : Due) (l : List ℕ) (s : Next) → width d ≤ length l → judge most d (number (take (width d) l)) ≡ s
+pub goes : {most at : ℕ} {o : Outcome} (d : Due) (l : List ℕ) (s : Next) → width d ≤ length l → judge most d (numberIn (take (width d) l)) ≡ s
     → Run most s (at + width d) (drop (width d) l) o → Run most (due d) at l o
 goes {most} {at} {o} d l s h e x = field h (subst (λ (u : Next). Run most u (at + width d) (drop (width d) l) o) (sym e) x)

@@ -9,11 +9,13 @@ use Rattle.boxes.specs.Sums.{sum}
 use Rattle.sheet.specs.Limits.{mostMarks, entries, marksOk}
 use Rattle.sheet.specs.Record.{Record, opened}
 use Rattle.stored.specs.declared.Read.{Read}
-use Rattle.stored.specs.Fields.{number, marks, class-count, held-count, due, end, judge, good, refused, Reading, over, early, faulty}
+use Rattle.stored.specs.Fields.{numberIn, marks, count, due, end, sectionsDue, judge, refused, good, Reading, over, early, faulty}
+use Rattle.stored.specs.Sections.{sections}
+use Rattle.stored.specs.declared.Section.the-variants.{Class, Held}
 use Rattle.stored.specs.Answers.{readOf, Reads}
 use Rattle.stored.specs.Form.{bytes, listed, form}
 use Rattle.stored.proofs.Runs.{goes}
-use Rattle.stored.proofs.Trips.{form-same, told-alike, form-same-sheet}
+use Rattle.stored.proofs.Trips.{form-same, told-agrees, form-same-sheet}
 
 -- two marks; 01, 10 and 11 are in the class; 00 holds 4:00, 01 2:30 and 11 10:00
 abbrev sample : Record
@@ -29,22 +31,23 @@ unfolding marksOk sum
 sample-read {a} x =
     let long : 3 ^ mostMarks ≤ entries = omega arith in
     form-same-sheet mostMarks entries long (omega arith) sample refl (omega arith)
-    (subst (λ (t : List ℕ). Reads mostMarks entries t a) (sym (form-same (told-alike mostMarks entries long sample refl))) x)
+    (subst (λ (t : List ℕ). Reads mostMarks entries t a) (sym (form-same (told-agrees mostMarks entries long sample refl))) x)
 
 -- a count cut in half ends early
 pub half-count : Reading mostMarks (2 ∷ 3 ∷ []) (refused 10 2)
-unfolding judge number marksOk
-half-count = goes marks (2 ∷ 3 ∷ []) (due (class-count (opened 2))) (omega arith) refl (early {d = class-count (opened 2)} {l = 3 ∷ []} (omega arith))
+unfolding judge numberIn marksOk
+half-count = goes marks (2 ∷ 3 ∷ []) (sectionsDue sections (opened 2)) (omega arith) refl (early {d = count Class (Held ∷ []) (opened 2)} {l = 3 ∷ []} (omega arith))
 
 -- a count above 2^m is faulty at its own offset, even if the input ends there
 pub count-above : Reading mostMarks (2 ∷ 5 ∷ 0 ∷ []) (refused 10 1)
-unfolding judge number marksOk
-count-above = goes marks (2 ∷ 5 ∷ 0 ∷ []) (due (class-count (opened 2))) (omega arith) refl (faulty {d = class-count (opened 2)} {l = 5 ∷ 0 ∷ []} (omega arith) refl)
+unfolding judge numberIn marksOk
+count-above =
+    goes marks (2 ∷ 5 ∷ 0 ∷ []) (sectionsDue sections (opened 2)) (omega arith) refl (faulty {d = count Class (Held ∷ []) (opened 2)} {l = 5 ∷ 0 ∷ []} (omega arith) refl)
 
 -- a byte left over
 pub one-more : Reading mostMarks (1 ∷ 0 ∷ 0 ∷ 0 ∷ 0 ∷ 7 ∷ []) (refused 10 5)
-unfolding judge number marksOk
+unfolding judge numberIn marksOk
 one-more =
-    goes marks (1 ∷ 0 ∷ 0 ∷ 0 ∷ 0 ∷ 7 ∷ []) (due (class-count (opened 1))) (omega arith) refl
-    (goes (class-count (opened 1)) (0 ∷ 0 ∷ 0 ∷ 0 ∷ 7 ∷ []) (due (held-count (opened 1))) (omega arith) refl
-    (goes (held-count (opened 1)) (0 ∷ 0 ∷ 7 ∷ []) (end (opened 1)) (omega arith) refl over))
+    goes marks (1 ∷ 0 ∷ 0 ∷ 0 ∷ 0 ∷ 7 ∷ []) (sectionsDue sections (opened 1)) (omega arith) refl
+    (goes (count Class (Held ∷ []) (opened 1)) (0 ∷ 0 ∷ 0 ∷ 0 ∷ 7 ∷ []) (sectionsDue (Held ∷ []) (opened 1)) (omega arith) refl
+    (goes (count Held [] (opened 1)) (0 ∷ 0 ∷ 7 ∷ []) (end (opened 1)) (omega arith) refl over))

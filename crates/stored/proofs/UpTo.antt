@@ -1,4 +1,4 @@
--- Functions of the combinations, one combination at a time: f with a value put at c, and f below n alone, d elsewhere.
+-- Functions of the combinations, one combination at a time: f with another value at c, and f below n alone, d elsewhere.
 use Prim.Native.Nat.{ℕ, suc, _≤_, _<_}
 use mathlib.Core.Path.{_≡_, refl, sym, ap, _∙_, fun-ext}
 use mathlib.Core.Bool.{Bool, cond}
@@ -6,14 +6,14 @@ use native.Mathlib.Omega.{arith}
 use lib.Dec.{ltb}
 use borrow.Author.Tests.{lt-ltb, le-ltb, eq-eqb, ne-eqb}
 use Rattle.ground.proofs.Cases.{below-or, same-or}
-use Rattle.stored.specs.Fields.{put}
+use Rattle.stored.specs.Sections.{updated}
 
 module _ {A : Type 0} (c : ℕ) (v : A) (f : ℕ → A) where
-  pub put-here : put c v f c ≡ v
-  put-here = ap (λ (b : Bool). cond b v (f c)) (eq-eqb c c refl)
+  pub updated-here : updated c v f c ≡ v
+  updated-here = ap (λ (b : Bool). cond b v (f c)) (eq-eqb c c refl)
 
-  pub put-other : (x : ℕ) → (x ≡ c → ⊥) → put c v f x ≡ f x
-  put-other x n = ap (λ (b : Bool). cond b v (f x)) (ne-eqb x c n)
+  pub updated-other : (x : ℕ) → (x ≡ c → ⊥) → updated c v f x ≡ f x
+  updated-other x n = ap (λ (b : Bool). cond b v (f x)) (ne-eqb x c n)
 
 abbrev pub upTo : {A : Type 0} → A → ℕ → (ℕ → A) → ℕ → A
 upTo d n f x = cond (ltb x n) (f x) d
@@ -28,18 +28,18 @@ module _ {A : Type 0} (d : A) (f : ℕ → A) where
   pub upTo-none : upTo d 0 f ≡ (λ x. d)
   upTo-none = fun-ext (λ x. upTo-high 0 x (omega arith))
 
-  step : (n x : ℕ) → (x ≡ n → ⊥) → upTo d n f x ≡ upTo d (suc n) f x
-  step n x q =
+  pub upTo-next : (n x : ℕ) → (x ≡ n → ⊥) → upTo d n f x ≡ upTo d (suc n) f x
+  upTo-next n x q =
       below-or x n (λ l. upTo-low n x l ∙ sym (upTo-low (suc n) x (omega arith))) (λ l. upTo-high n x l ∙ sym (upTo-high (suc n) x (omega arith)))
 
   here : (n x : ℕ) → x ≡ n → upTo d (suc n) f x ≡ f n
   here n x q = upTo-low (suc n) x (omega arith) ∙ ap f q
 
   pub upTo-skip : (n : ℕ) → f n ≡ d → upTo d n f ≡ upTo d (suc n) f
-  upTo-skip n e = fun-ext (λ x. same-or x n (λ q. upTo-high n x (omega arith) ∙ sym e ∙ sym (here n x q)) (λ q. step n x q))
+  upTo-skip n e = fun-ext (λ x. same-or x n (λ q. upTo-high n x (omega arith) ∙ sym e ∙ sym (here n x q)) (λ q. upTo-next n x q))
 
-  pub upTo-put : (n : ℕ) → put n (f n) (upTo d n f) ≡ upTo d (suc n) f
-  upTo-put n =
+  pub upTo-updated : (n : ℕ) → updated n (f n) (upTo d n f) ≡ upTo d (suc n) f
+  upTo-updated n =
       fun-ext (λ x. same-or x n
       (λ q. ap (λ (b : Bool). cond b (f n) (upTo d n f x)) (eq-eqb x n q) ∙ sym (here n x q))
-      (λ q. put-other n (f n) (upTo d n f) x q ∙ step n x q))
+      (λ q. updated-other n (f n) (upTo d n f) x q ∙ upTo-next n x q))

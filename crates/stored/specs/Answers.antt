@@ -22,14 +22,10 @@ pub record Reads (most n : ℕ) (t : List ℕ) (answer : Read) : Type 0 where
   pub run : Reading most t outcome
   pub is : answer ≡ readOf n outcome
 
--- a sheet in which every table is sound and the marks are 1 to `most`
-abbrev pub Fit : ℕ → Sheet → Type 0
-Fit most s = Ready most s
-
 -- Writing a sheet to the lent bytes `out`: 7 as for the total; 5 exactly if room is below the length of the form; else the form stands in front, and
 -- the bytes behind it stay. A refused call leaves every byte.
 pub data Writes (most : ℕ) (s : Sheet) (out : List ℕ) : Value → List ℕ → Type 0 where
-  spoiled : (Fit most s → ⊥) → Writes most s out (record { number = 7; value = 0 }) out
-  short : Fit most s → length out < length (form (recordOf s)) → Writes most s out (record { number = 5; value = 0 }) out
-  written : Fit most s → length (form (recordOf s)) ≤ length out
+  spoiled : (Ready most s → ⊥) → Writes most s out (record { number = 7; value = 0 }) out
+  short : Ready most s → length out < length (form (recordOf s)) → Writes most s out (record { number = 5; value = 0 }) out
+  written : Ready most s → length (form (recordOf s)) ≤ length out
       → Writes most s out (record { number = 0; value = length (form (recordOf s)) }) (form (recordOf s) ++ drop (length (form (recordOf s))) out)

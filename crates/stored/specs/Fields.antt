@@ -1,48 +1,36 @@
 -- Reading the stored form (01, 'Stored form'): which field comes next, how each is judged once complete, and what a run over the bytes gives.
 -- Largest marks are a parameter.
 use Prim.Native.Nat.{ℕ, zero, suc, _+_, _*_, _^_, _≤_, _<_}
-use mathlib.Core.Bool.{true, cond, _&&_}
+use mathlib.Core.Bool.{cond, _&&_}
 use mathlib.Core.Path.{_≡_}
 use mathlib.Core.List.{List, [], _∷_}
 use lib.ListN.{length, take, drop}
-use lib.Dec.{eqb, leb, ltb}
-use Rattle.sheet.specs.Limits.{marksOk, mostHeld}
+use lib.Dec.{leb, ltb}
+use Rattle.sheet.specs.Limits.{marksOk}
 use Rattle.sheet.specs.Record.{Record, opened}
+use Rattle.stored.specs.Sections.{sections, bytesBehind, heldIn, mayStand, added}
+use Rattle.stored.specs.declared.Section.{Section}
 
 -- the number in some bytes, low byte first
-unfoldable pub number : List ℕ → ℕ
-number [] = 0
-number (b ∷ l) = b + number l * 256
+unfoldable pub numberIn : List ℕ → ℕ
+numberIn [] = 0
+numberIn (b ∷ l) = b + numberIn l * 256
 
--- f with v at c
-abbrev pub put : {A : Type 0} → ℕ → A → (ℕ → A) → ℕ → A
-put c v f x = cond (eqb x c) v (f x)
-
--- a record with one more combination in the class, and with the seconds that a combination holds
-abbrev pub entered : Record → ℕ → Record
-entered r c = record { marks = r .marks; class = put c true (r .class); times = r .times }
-
-abbrev pub holding : Record → ℕ → ℕ → Record
-holding r c s = record { marks = r .marks; class = r .class; times = put c s (r .times) }
-
--- The field that is due; r is what was read before it. `left` more follow it in its section, `low` is the least combination that may stand there
--- (one above the one before), `sum` the seconds so far.
+-- The field that is due: the marks; or, of a section s with the sections `rest` behind it, its count, a combination, or the number behind the
+-- combination c. r is what was read before. `left` more combinations follow in the section, and `low` is the least that may stand there (one above
+-- the one before).
 pub data Due : Type 0 where
   marks : Due
-  class-count : (r : Record) → Due
-  class : (r : Record) (left low : ℕ) → Due
-  held-count : (r : Record) → Due
-  held : (r : Record) (left low sum : ℕ) → Due
-  seconds : (r : Record) (left c sum : ℕ) → Due
+  count : (s : Section) (rest : List Section) (r : Record) → Due
+  combination : (s : Section) (rest : List Section) (r : Record) (left low : ℕ) → Due
+  behind : (s : Section) (rest : List Section) (r : Record) (left c : ℕ) → Due
 
--- how many bytes it has
+-- how many bytes it has; a field of none is complete at once, and its number is 0
 abbrev pub width : Due → ℕ
 width marks = 1
-width (class-count r) = 2
-width (class r left low) = 1
-width (held-count r) = 2
-width (held r left low sum) = 1
-width (seconds r left c sum) = 4
+width (count s rest r) = 2
+width (combination s rest r left low) = 1
+width (behind s rest r left c) = bytesBehind s
 
 -- what follows: a field, or the end, or the field was wrong
 pub data Next : Type 0 where
@@ -50,24 +38,23 @@ pub data Next : Type 0 where
   end : Record → Next
   wrong : (number : ℕ) → Next
 
--- n more combinations of a section
-abbrev pub class-of : Record → (n low : ℕ) → Next
-class-of r zero low = due (held-count r)
-class-of r (suc left) low = due (class r left low)
+-- some sections
+abbrev pub sectionsDue : List Section → Record → Next
+sectionsDue [] r = end r
+sectionsDue (s ∷ rest) r = due (count s rest r)
 
-abbrev pub held-of : Record → (n low sum : ℕ) → Next
-held-of r zero low sum = end r
-held-of r (suc left) low sum = due (held r left low sum)
+-- n more combinations of a section, and then the sections behind it
+abbrev pub entriesDue : Section → List Section → Record → (n low : ℕ) → Next
+entriesDue s rest r zero low = sectionsDue rest r
+entriesDue s rest r (suc left) low = due (combination s rest r left low)
 
--- Each field judged by its number. m wrong is 1. Otherwise 10: a count above 2^m, a combination not below 2^m or not above the one before,
--- seconds of 0, or seconds that bring the sum so far above 4,000,000,000.
+-- Each field judged by its number. m wrong is 1. Otherwise 10: a count above 2^m, a combination not below 2^m or not above the one before, or a
+-- number that may not stand behind it.
 unfoldable pub judge : ℕ → Due → ℕ → Next
-judge most marks m = cond (marksOk most m) (due (class-count (opened m))) (wrong 1)
-judge most (class-count r) n = cond (leb n (2 ^ r .marks)) (class-of r n 0) (wrong 10)
-judge most (class r left low) c = cond (leb low c && ltb c (2 ^ r .marks)) (class-of (entered r c) left (c + 1)) (wrong 10)
-judge most (held-count r) n = cond (leb n (2 ^ r .marks)) (held-of r n 0 0) (wrong 10)
-judge most (held r left low sum) c = cond (leb low c && ltb c (2 ^ r .marks)) (due (seconds r left c sum)) (wrong 10)
-judge most (seconds r left c sum) s = cond (leb 1 s && leb (sum + s) mostHeld) (held-of (holding r c s) left (c + 1) (sum + s)) (wrong 10)
+judge most marks m = cond (marksOk most m) (sectionsDue sections (opened m)) (wrong 1)
+judge most (count s rest r) n = cond (leb n (2 ^ r .marks)) (entriesDue s rest r n 0) (wrong 10)
+judge most (combination s rest r left low) c = cond (leb low c && ltb c (2 ^ r .marks)) (due (behind s rest r left c)) (wrong 10)
+judge most (behind s rest r left c) x = cond (mayStand s (heldIn r) x) (entriesDue s rest (added s r c x) left (c + 1)) (wrong 10)
 
 -- what reading comes to: a record of marks, class and times, or a number with a place
 pub data Outcome : Type 0 where
@@ -80,8 +67,8 @@ pub data Run (most : ℕ) : Next → ℕ → List ℕ → Outcome → Type 0 whe
   done : {r : Record} {at : ℕ} → Run most (end r) at [] (good r)
   over : {r : Record} {at b : ℕ} {l : List ℕ} → Run most (end r) at (b ∷ l) (refused 10 at)
   early : {d : Due} {at : ℕ} {l : List ℕ} → length l < width d → Run most (due d) at l (refused 10 (at + length l))
-  faulty : {d : Due} {at : ℕ} {l : List ℕ} {n : ℕ} → width d ≤ length l → judge most d (number (take (width d) l)) ≡ wrong n → Run most (due d) at l (refused n at)
-  field : {d : Due} {at : ℕ} {l : List ℕ} {o : Outcome} → width d ≤ length l → Run most (judge most d (number (take (width d) l))) (at + width d) (drop (width d) l) o
+  faulty : {d : Due} {at : ℕ} {l : List ℕ} {n : ℕ} → width d ≤ length l → judge most d (numberIn (take (width d) l)) ≡ wrong n → Run most (due d) at l (refused n at)
+  field : {d : Due} {at : ℕ} {l : List ℕ} {o : Outcome} → width d ≤ length l → Run most (judge most d (numberIn (take (width d) l))) (at + width d) (drop (width d) l) o
       → Run most (due d) at l o
 
 -- all the bytes

@@ -2,9 +2,10 @@
 use Prim.Native.Nat.{ℕ, zero, suc, _/_, _%_, _^_}
 use mathlib.Core.Bool.{Bool, cond}
 use mathlib.Core.List.{List, [], _∷_, _++_}
-use lib.Dec.{ltb}
 use Rattle.sheet.specs.Record.{Record}
 use Rattle.sheet.specs.Sound.{sizeOf}
+use Rattle.stored.specs.Sections.{sections, bytesBehind, standsIn, numberBehind}
+use Rattle.stored.specs.declared.Section.{Section}
 
 -- a number in k bytes, low byte first
 unfoldable pub bytes : ℕ → ℕ → List ℕ
@@ -16,21 +17,22 @@ unfoldable pub listed : (ℕ → Bool) → (ℕ → List ℕ) → ℕ → List �
 listed p f zero = []
 listed p f (suc n) = listed p f n ++ cond (p n) (f n) []
 
--- a section: how many combinations the test takes, in two bytes, and then those
-abbrev pub section : ℕ → (ℕ → Bool) → (ℕ → List ℕ) → List ℕ
-section m p f = bytes 2 (sizeOf m p) ++ listed p f (2 ^ m)
+-- an entry: the combination in one byte, and the number behind it
+abbrev pub entryOf : Section → Record → ℕ → List ℕ
+entryOf s r c = c ∷ bytes (bytesBehind s) (numberBehind s r c)
 
--- a class combination is one byte
-abbrev pub alone : ℕ → List ℕ
-alone c = c ∷ []
+-- a section: how many combinations stand in it, in two bytes, and then those
+abbrev pub entriesOf : Section → Record → List ℕ
+entriesOf s r = listed (standsIn s r) (entryOf s r) (2 ^ r .marks)
 
--- a held combination is one byte, and its seconds in four
-abbrev pub isHeld : (ℕ → ℕ) → ℕ → Bool
-isHeld times c = ltb 0 (times c)
+abbrev pub section : Section → Record → List ℕ
+section s r = bytes 2 (sizeOf (r .marks) (standsIn s r)) ++ entriesOf s r
 
-abbrev pub withSeconds : (ℕ → ℕ) → ℕ → List ℕ
-withSeconds times c = c ∷ bytes 4 (times c)
+-- some sections, one behind the other
+abbrev pub sectionsOf : List Section → Record → List ℕ
+sectionsOf [] r = []
+sectionsOf (s ∷ rest) r = section s r ++ sectionsOf rest r
 
--- byte m, the class, what is held
+-- byte m, and the sections; nothing follows
 unfoldable pub form : Record → List ℕ
-form r = r .marks ∷ (section (r .marks) (r .class) alone ++ section (r .marks) (isHeld (r .times)) (withSeconds (r .times)))
+form r = r .marks ∷ sectionsOf sections r

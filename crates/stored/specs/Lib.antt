@@ -1,3 +1,4 @@
+pub mod Sections
 pub mod Fields
 pub mod Form
 pub mod Answers

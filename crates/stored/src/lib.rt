@@ -1,4 +1,7 @@
 // The stored form of a sheet: what it is, and what its reader and its writer promise. The functions are those of `reading` and `writing`.
+ghost use mathlib.Core.Path.{_≡_};
+ghost use Prim.Native.Nat.{_≤_};
+ghost use Rattle.stored.specs.Sections.{bytesBehind, unset};
 use sheet::Sheet;
 
 // What reading gives: the number of 01's table, the place, which is 0 for every number but 10, and the sheet.
@@ -6,4 +9,32 @@ pub struct Read {
     pub number: u64,
     pub place: u64,
     pub sheet: Sheet,
+}
+
+// The sections of the form: the combinations in the class, and those that hold seconds.
+pub enum Section {
+    Class,
+    Held,
+}
+
+impl Section {
+    // How many bytes stand behind each combination of the section.
+    pub fn bytes_behind(self) -> usize
+        ensures { λ r. ⌜ (r ≡ bytesBehind self) × (r ≤ 4) ⌝ }
+    {
+        match self {
+            Section::Class => 0,
+            Section::Held => 4,
+        }
+    }
+
+    // What a combination that does not stand in the section has of its own in the sheet's table: an outside count of 1, or no seconds.
+    pub fn unset(self) -> u32
+        ensures { λ r. ⌜ r ≡ unset self ⌝ }
+    {
+        match self {
+            Section::Class => 1,
+            Section::Held => 0,
+        }
+    }
 }

@@ -1,29 +1,33 @@
--- Bytes and listed combinations, one at a time, as the loops put them; the form from its five pieces.
-use Prim.Native.Nat.{ℕ, zero, suc, _+_, _-_, _/_, _%_, _^_, _≤_, _<_}
+-- Bytes and listed combinations, one at a time, as the loops put them; the form from its three pieces.
+use Prim.Native.Nat.{ℕ, zero, suc, _+_, _-_, _*_, _/_, _%_, _^_, _≤_, _<_}
 use mathlib.Core.Path.{_≡_, refl, sym, ap, ap₂, _∙_, subst}
-use mathlib.Core.Bool.{Bool, true, false, cond, _&&_}
-use mathlib.Core.List.{List, [], _∷_, _++_, append-assoc}
+use mathlib.Core.Bool.{Bool, not, cond, _&&_}
+use mathlib.Core.List.{List, [], _∷_, _++_, append-nil}
 use native.Mathlib.Nat.{sub-zero, zero-add}
 use native.Mathlib.Numerals.{add-one}
 use native.Mathlib.Omega.{arith}
 use lib.ListN.{length, getD, take, drop, length-append}
 use lib.Seq.{drop-cons, take-all, length-take-le}
 use lib.Dec.{eqb}
-use borrow.Author.Tests.{lt-ltb}
-use Rattle.boxes.specs.Boxes.{single}
-use Rattle.boxes.specs.Sums.{sum, only}
-use Rattle.ground.proofs.Cases.{below-or}
-use Rattle.boxes.proofs.Sums.{sum-ext}
-use Rattle.tables.specs.Tables.{entry, own}
-use Rattle.sheet.specs.Sound.{classOf, sizeOf, recordOf}
-use Rattle.sheet.specs.declared.Sheet.{Sheet}
-use Rattle.stored.specs.Form.{bytes, listed, alone, form}
-use Rattle.stored.specs.Answers.{Fit, Writes, written}
-use Rattle.stored.proofs.Numbers.{bytes-length}
-use Rattle.stored.proofs.Listed.{listed-ext}
+use borrow.Author.Tests.{lt-ltb, le-ltb, eq-eqb, ne-eqb}
 use Rattle.ground.specs.Areas.{laid, Wrote}
 use Rattle.ground.proofs.Areas.{wrote-then, wrote-text, wrote-length, wrote-none}
-use Rattle.writing.specs.Sections.{stands, text, listOf, countOf, told}
+use Rattle.ground.proofs.Cases.{below-or, mark}
+use Rattle.boxes.specs.Boxes.{single}
+use Rattle.boxes.specs.Sums.{sum, only}
+use Rattle.boxes.proofs.Sums.{sum-ext}
+use Rattle.tables.specs.Tables.{entry, own}
+use Rattle.sheet.specs.Sound.{Ready, sizeOf, recordOf}
+use Rattle.sheet.specs.declared.Sheet.{Sheet}
+use Rattle.stored.specs.Sections.{bytesBehind, standsIn, unset}
+use Rattle.stored.specs.Form.{bytes, listed, entryOf, section, form}
+use Rattle.stored.specs.Answers.{Writes, written}
+use Rattle.stored.specs.declared.Section.{Section}
+use Rattle.stored.specs.declared.Section.the-variants.{Class, Held}
+use Rattle.stored.proofs.Numbers.{bytes-length}
+use Rattle.stored.proofs.Listed.{listed-ext}
+use Rattle.stored.proofs.Trips.{form-length}
+use Rattle.writing.specs.Sections.{isSet, entryText, countOf, sectionOf}
 
 same-head : {x y : ℕ} {a b : List ℕ} → (x ∷ a) ≡ (y ∷ b) → x ≡ y
 same-head e = cc
@@ -108,82 +112,77 @@ module _ {p : ℕ → Bool} {f : ℕ → List ℕ} {n : ℕ} {xs : List ℕ} {at
     listing-more w = record { room = v .room; put = wrote-text (sym (listed-step p f c b x takes writes)) (wrote-then (v .put) w fits) }
 
 -- what the table has of a combination
-pub own-read : (m : ℕ) (t : List ℕ) (c b x : ℕ) → b ≡ single m c → x ≡ entry t b → own m t c ≡ x
-own-read m t c b x e is = ap (entry t) (sym e) ∙ sym is
+pub own-read : (m : ℕ) (t : List ℕ) (c b : ℕ) → b ≡ single m c → own m t c ≡ entry t b
+own-read m t c b e = ap (entry t) (sym e)
 
 pub sum-step : (f : ℕ → ℕ) (c x : ℕ) → f c ≡ x → sum c f + x ≡ sum (c + 1) f
 unfolding sum
 sum-step f c x e = sym (ap (λ (j : ℕ). sum j f) (add-one c) ∙ ap (λ (y : ℕ). sum c f + y) e)
 
--- an entry of a section
-module _ (held : Bool) (c x : ℕ) where
-  pub entry-none : stands held x ≡ false → cond (stands held x) (text held c x) [] ≡ []
-  entry-none e = ap (λ (b : Bool). cond b (text held c x) []) e
+-- an entry
+pub entry-none : (k unset c x : ℕ) → x ≡ unset → entryText k unset c x ≡ []
+entry-none k unset c x e = ap (λ (b : Bool). cond (not b) (c ∷ bytes k x) []) (eq-eqb x unset e)
 
-  pub entry-some : stands held x ≡ true → (b : Bool) → held ≡ b → cond (stands held x) (text held c x) [] ≡ c ∷ cond b (bytes 4 x) []
-  entry-some e b q = ap (λ (z : Bool). cond z (text held c x) []) e ∙ ap (λ (z : Bool). text z c x) q
+pub entry-some : (k unset c x : ℕ) → (x ≡ unset → ⊥) → entryText k unset c x ≡ c ∷ bytes k x
+entry-some k unset c x n = ap (λ (b : Bool). cond (not b) (c ∷ bytes k x) []) (ne-eqb x unset n)
 
--- the class as the counts tell it is the class section's
-class-stands : (m : ℕ) (t : List ℕ) (c : ℕ) → c < 2 ^ m → stands false (own m t c) ≡ classOf m t c
-class-stands m t c l = ap (λ (e : Bool). e && eqb (own m t c) 0) (sym (lt-ltb c (2 ^ m) l))
+pub set-one : (unset x : ℕ) → (x ≡ unset → ⊥) → only (isSet unset x) 1 ≡ 1
+set-one unset x n = ap (λ (b : Bool). only (not b) 1) (ne-eqb x unset n)
 
-pub class-list : (m : ℕ) (t : List ℕ) → listOf false m t ≡ listed (classOf m t) alone (2 ^ m)
-class-list m t = listed-ext (λ c. stands false (own m t c)) (classOf m t) alone alone (2 ^ m) (class-stands m t) (λ c l. refl)
+pub unset-none : (unset x : ℕ) → x ≡ unset → only (isSet unset x) 1 ≡ 0
+unset-none unset x e = ap (λ (b : Bool). only (not b) 1) (eq-eqb x unset e)
 
-pub class-count : (m : ℕ) (t : List ℕ) → countOf false m t ≡ sizeOf m (classOf m t)
-class-count m t = sum-ext (2 ^ m) _ _ (λ c l. ap (λ (e : Bool). only e 1) (class-stands m t c l))
+-- the table that tells a section
+abbrev pub tableOf : Section → Sheet → List ℕ
+tableOf Class u = u .outside
+tableOf Held u = u .held
 
--- the form from its five pieces
-module _ (m a b : ℕ) (outside held : List ℕ) (ea : a ≡ countOf false m outside) (eb : b ≡ countOf true m held) where
-  abbrev pub class-part : List ℕ
-  class-part = listOf false m outside
+-- of a sound sheet it tells what stands there, and what is behind it
+module _ {most : ℕ} (u : Sheet) (ready : Ready most u) where
+  stands-told : (s : Section) (c : ℕ) → c < 2 ^ u .marks → isSet (unset s) (own (u .marks) (tableOf s u) c) ≡ standsIn s (recordOf u) c
+  stands-told Class c l =
+      mark (λ x. isSet 1 x ≡ eqb x 0) (own (u .marks) (u .outside) c) (omega (arith, ready .class .ones c l)) refl refl
+      ∙ ap (λ (b : Bool). b && eqb (own (u .marks) (u .outside) c) 0) (sym (lt-ltb c (2 ^ u .marks) l))
+  stands-told Held c l =
+      let x = own (u .marks) (u .held) c in
+      below-or 0 x (λ p. rw (ne-eqb x 0 (λ e. omega arith), lt-ltb 0 x p)) (λ p. rw (eq-eqb x 0 (omega arith), le-ltb 0 x p))
 
-  abbrev pub held-part : List ℕ
-  held-part = listOf true m held
+  entry-told : (s : Section) (c : ℕ) → (c ∷ bytes (bytesBehind s) (own (u .marks) (tableOf s u) c)) ≡ entryOf s (recordOf u) c
+  unfolding bytes
+  entry-told Class c = refl
+  entry-told Held c = refl
 
-  pieces : ((((m ∷ []) ++ bytes 2 a) ++ class-part) ++ bytes 2 b) ++ held-part ≡ form (told m outside held)
+  count-told : (s : Section) → countOf (unset s) (u .marks) (tableOf s u) ≡ sizeOf (u .marks) (standsIn s (recordOf u))
+  count-told s = sum-ext (2 ^ u .marks) _ _ (λ c l. ap (λ (b : Bool). only b 1) (stands-told s c l))
+
+  section-told : (s : Section) → sectionOf s (u .marks) (tableOf s u) ≡ section s (recordOf u)
+  section-told s = ap₂ (λ (n : ℕ) (l : List ℕ). bytes 2 n ++ l) (count-told s) (listed-ext _ _ _ _ (2 ^ u .marks) (stands-told s) (λ c l. entry-told s c))
+
+  -- the form from its three pieces, and its length from the two counts
+  abbrev pub pieces : List ℕ
+  pieces = ((u .marks ∷ []) ++ sectionOf Class (u .marks) (u .outside)) ++ sectionOf Held (u .marks) (u .held)
+
+  pub pieces-form : pieces ≡ form (recordOf u)
   unfolding form
-  pieces = rw (← class-list m outside, ← class-count m outside, ← ea, ← eb) (simp append-assoc)
+  pieces-form = ap₂ (λ (x y : List ℕ). u .marks ∷ (x ++ y)) (section-told Class) (section-told Held ∙ sym (append-nil (section Held (recordOf u))))
 
-  pub form-long : length (form (told m outside held)) ≡ 5 + length class-part + length held-part
-  form-long =
-      let l₁ = (m ∷ []) ++ bytes 2 a in
-      let l₂ = l₁ ++ class-part in
-      let l₃ = l₂ ++ bytes 2 b in
-      omega (
-        arith,
-        ap length pieces,
-        length-append l₃ held-part,
-        length-append l₂ (bytes 2 b),
-        length-append l₁ class-part,
-        length-append (m ∷ []) (bytes 2 a),
-        bytes-length 2 a,
-        bytes-length 2 b,
-      )
+  pub length-told : length (form (recordOf u)) ≡ 5 + countOf (unset Class) (u .marks) (u .outside) + countOf (unset Held) (u .marks) (u .held) * 5
+  length-told = omega (arith, form-length (recordOf u), count-told Class, count-told Held)
 
-  pub form-put : {xs o₁ o₂ o₃ o₄ o₅ : List ℕ} {p₁ p₂ p₃ p₄ p₅ : ℕ} → length (form (told m outside held)) ≤ length xs
-      → Wrote xs 0 (m ∷ []) p₁ o₁ → Wrote o₁ p₁ (bytes 2 a) p₂ o₂ → Wrote o₂ p₂ class-part p₃ o₃ → Wrote o₃ p₃ (bytes 2 b) p₄ o₄ → Wrote o₄ p₄ held-part p₅ o₅
-      → Wrote xs 0 (form (told m outside held)) p₅ o₅
-  form-put room w₁ w₂ w₃ w₄ w₅ =
-      let l₁ = (m ∷ []) ++ bytes 2 a in
-      let l₂ = l₁ ++ class-part in
-      let l₃ = l₂ ++ bytes 2 b in
-      let e₁ = length-append (m ∷ []) (bytes 2 a) in
-      let e₂ = length-append l₁ class-part in
-      let e₃ = length-append l₂ (bytes 2 b) in
-      let n₁ = bytes-length 2 a in
-      let n₂ = bytes-length 2 b in
-      let whole = form-long in
-      wrote-text pieces
-      (wrote-then (wrote-then (wrote-then (wrote-then w₁ w₂ (omega arith)) w₃ (omega arith)) w₄ (omega arith)) w₅ (omega arith))
-
--- a form that was put is written
-pub put-written : {most : ℕ} (s : Sheet) (out : List ℕ) {r : ℕ} {later : List ℕ} → Fit most s → length (form (recordOf s)) ≤ length out
-    → Wrote out 0 (form (recordOf s)) r later → Writes most s out (record { number = 0; value = r }) later
-unfolding laid
-put-written {most} s out {r} {later} f h w =
-    let t = form (recordOf s) in
-    let e : r ≡ length t = omega (arith, w .place) in
-    let q : later ≡ t ++ drop (length t) out = w .area ∙ ap (λ (k : ℕ). t ++ drop k out) (zero-add (length t)) in
-    subst (λ (k : ℕ). Writes most s out (record { number = 0; value = k }) later) (sym e)
-    (subst (λ (l : List ℕ). Writes most s out (record { number = 0; value = length t }) l) (sym q) (written f h))
+  -- a form whose pieces were put is written
+  pub pieces-written : {out o₁ o₂ o₃ : List ℕ} {p₁ p₂ p₃ : ℕ} → length (form (recordOf u)) ≤ length out → Wrote out 0 (u .marks ∷ []) p₁ o₁
+      → Wrote o₁ p₁ (sectionOf Class (u .marks) (u .outside)) p₂ o₂ → Wrote o₂ p₂ (sectionOf Held (u .marks) (u .held)) p₃ o₃
+      → Writes most u out (record { number = 0; value = p₃ }) o₃
+  unfolding laid
+  pieces-written {out} {o₃ = o₃} {p₃ = p₃} room w₁ w₂ w₃ =
+      let t = form (recordOf u) in
+      let class = sectionOf Class (u .marks) (u .outside) in
+      let held = sectionOf Held (u .marks) (u .held) in
+      let e₁ = length-append (u .marks ∷ []) class in
+      let e₂ = length-append ((u .marks ∷ []) ++ class) held in
+      let whole = ap length pieces-form in
+      let w = wrote-text pieces-form (wrote-then (wrote-then w₁ w₂ (omega arith)) w₃ (omega arith)) in
+      let e : p₃ ≡ length t = omega (arith, w .place) in
+      let q : o₃ ≡ t ++ drop (length t) out = w .area ∙ ap (λ (k : ℕ). t ++ drop k out) (zero-add (length t)) in
+      subst (λ (k : ℕ). Writes most u out (record { number = 0; value = k }) o₃) (sym e)
+      (subst (λ (l : List ℕ). Writes most u out (record { number = 0; value = length t }) l) (sym q) (written ready room))

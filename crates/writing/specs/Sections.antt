@@ -1,28 +1,28 @@
--- The two sections as lent tables tell them: the class section (false) by the outside counts, the held section (true) by the seconds.
+-- The sections as lent tables tell them. k bytes stand behind each combination, and `unset` is what one has of its own that does not stand in the section.
 use Prim.Native.Nat.{ℕ, _^_}
-use mathlib.Core.Bool.{Bool, cond}
-use mathlib.Core.List.{List, [], _∷_}
-use lib.Dec.{eqb, ltb}
+use mathlib.Core.Bool.{Bool, not, cond}
+use mathlib.Core.List.{List, [], _∷_, _++_}
+use lib.Dec.{eqb}
 use Rattle.tables.specs.Tables.{own}
-use Rattle.sheet.specs.Record.{Record}
-use Rattle.sheet.specs.Sound.{classOf, sizeOf}
+use Rattle.sheet.specs.Sound.{sizeOf}
+use Rattle.stored.specs.Sections.{bytesBehind, unset}
 use Rattle.stored.specs.Form.{bytes, listed}
+use Rattle.stored.specs.declared.Section.{Section}
 
--- whether a combination stands in the section, x being the entry of its own
-abbrev pub stands : Bool → ℕ → Bool
-stands held x = cond held (ltb 0 x) (eqb x 0)
+-- whether a combination stands in it, x being what it has of its own, and what is written of it
+abbrev pub isSet : ℕ → ℕ → Bool
+isSet unset x = not (eqb x unset)
 
--- how it is written
-abbrev pub text : Bool → ℕ → ℕ → List ℕ
-text held c x = c ∷ cond held (bytes 4 x) []
+abbrev pub entryText : ℕ → ℕ → ℕ → ℕ → List ℕ
+entryText k unset c x = cond (isSet unset x) (c ∷ bytes k x) []
 
 -- those that stand in it, and how many they are
-abbrev pub listOf : Bool → ℕ → List ℕ → List ℕ
-listOf held m t = listed (λ c. stands held (own m t c)) (λ c. text held c (own m t c)) (2 ^ m)
+abbrev pub listOf : ℕ → ℕ → ℕ → List ℕ → List ℕ
+listOf k unset m t = listed (λ c. isSet unset (own m t c)) (λ c. c ∷ bytes k (own m t c)) (2 ^ m)
 
-abbrev pub countOf : Bool → ℕ → List ℕ → ℕ
-countOf held m t = sizeOf m (λ c. stands held (own m t c))
+abbrev pub countOf : ℕ → ℕ → List ℕ → ℕ
+countOf unset m t = sizeOf m (λ c. isSet unset (own m t c))
 
--- the record of the sheet with these marks and tables
-abbrev pub told : ℕ → List ℕ → List ℕ → Record
-told m outside held = record { marks = m; class = classOf m outside; times = own m held }
+-- the section
+abbrev pub sectionOf : Section → ℕ → List ℕ → List ℕ
+sectionOf s m t = bytes 2 (countOf (unset s) m t) ++ listOf (bytesBehind s) (unset s) m t

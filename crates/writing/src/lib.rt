@@ -1,26 +1,20 @@
 // Writing a sheet's stored form into a lent area.
 ghost use mathlib.Core.Path.{_≡_};
-ghost use mathlib.Core.Bool.{true, false, cond};
-ghost use mathlib.Core.List.{[]};
-ghost use Prim.Native.Nat.{_+_, _^_, _≤_, _<_};
+ghost use Prim.Native.Nat.{_+_, _≤_, _<_};
 ghost use lib.ListN.{length};
-ghost use Rattle.boxes.specs.Sums.{only};
-ghost use Rattle.sheet.specs.Limits.{mostMarks, entries};
-ghost use Rattle.stored.specs.Form.{bytes, form};
-ghost use Rattle.stored.specs.Answers.{Writes};
 ghost use Rattle.ground.specs.Areas.{Wrote};
-ghost use Rattle.writing.specs.Sections.{stands, text, listOf, countOf, told};
+ghost use Rattle.sheet.specs.Limits.{mostMarks, entries};
+ghost use Rattle.sheet.specs.Sound.{Ready};
+ghost use Rattle.stored.specs.Sections.{unset};
+ghost use Rattle.stored.specs.Form.{bytes};
+ghost use Rattle.stored.specs.Answers.{Writes};
+ghost use Rattle.writing.specs.Sections.{entryText, listOf, countOf, sectionOf};
 use sheet::Sheet;
 use sheet::Value;
-
-fn wide(x: u32) -> usize
-    ensures { λ r. ⌜ (r ≡ x) × (r < 2 ^ 32) ⌝ }
-{
-    x as usize
-}
+use stored::Section;
 
 // A number in k bytes, low byte first.
-fn put_bytes(out: &mut [u8], at: usize, k: usize, n: usize) -> usize
+fn put_bytes(out: &mut [u8], at: usize, k: usize, n: u64) -> usize
     requires { ⌜ at + k ≤ length (now out) ⌝ }
     ensures { λ r. ⌜ Wrote (now (out .entry)) at (bytes k n) r (now (out .exit)) ⌝ }
 {
@@ -33,103 +27,98 @@ fn put_bytes(out: &mut [u8], at: usize, k: usize, n: usize) -> usize
     next
 }
 
-// Whether a combination stands in the class section, by its outside count, or in the held one, by its seconds.
-fn stands(x: usize, held: bool) -> bool
-    ensures { λ r. ⌜ r ≡ stands held x ⌝ }
+// The combination c, with the number x that it has of its own in k bytes behind it, if that is set.
+fn put_entry(out: &mut [u8], at: usize, c: usize, x: u32, k: usize, unset: u32) -> usize
+    requires { ⌜ c < 256 ⌝ }
+    requires { ⌜ at + length (entryText k unset c x) ≤ length (now out) ⌝ }
+    ensures { λ r. ⌜ Wrote (now (out .entry)) at (entryText k unset c x) r (now (out .exit)) ⌝ }
 {
-    if held {
-        return 0 < x;
-    }
-    x == 0
-}
-
-// The combination c where it stands in the section, with its seconds in the held one.
-fn put_entry(out: &mut [u8], at: usize, c: usize, x: usize, held: bool) -> usize
-    requires { ⌜ (c < 256) × (at + length (cond (stands held x) (text held c x) []) ≤ length (now out)) ⌝ }
-    ensures { λ r. ⌜ Wrote (now (out .entry)) at (cond (stands held x) (text held c x) []) r (now (out .exit)) ⌝ }
-{
-    if !stands(x, held) {
+    if x == unset {
         return at;
     }
     let next = ground::put_byte(out, at, c as u8);
-    if !held {
-        return next;
-    }
-    put_bytes(out, next, 4, x)
+    put_bytes(out, next, k, ground::wide(x))
 }
 
-// The combinations of a section.
-fn put_list(out: &mut [u8], at: usize, m: usize, t: &[u32], held: bool) -> usize
-    requires { ⌜ (m ≤ 5) × (entries ≤ length (now t)) × (at + length (listOf held m (now t)) ≤ length (now out)) ⌝ }
-    ensures { λ r. ⌜ Wrote (now (out .entry)) at (listOf held m (now (t .entry))) r (now (out .exit)) ⌝ }
+// The combinations of a section, t being the table that tells them.
+fn put_list(out: &mut [u8], at: usize, m: usize, t: &[u32], k: usize, unset: u32) -> usize
+    requires { ⌜ m ≤ mostMarks ⌝ }
+    requires { ⌜ entries ≤ length (now t) ⌝ }
+    requires { ⌜ at + length (listOf k unset m (now t)) ≤ length (now out) ⌝ }
+    ensures { λ r. ⌜ Wrote (now (out .entry)) at (listOf k unset m (now (t .entry))) r (now (out .exit)) ⌝ }
 {
     let n = boxes::power2(m);
     let mut next = at;
     for c in 0..n {
         let b = boxes::single(m, c);
-        next = put_entry(out, next, c, wide(t[b]), held);
+        next = put_entry(out, next, c, t[b], k, unset);
     }
     next
 }
 
-fn one(x: usize, held: bool) -> usize
-    ensures { λ r. ⌜ (r ≡ only (stands held x) 1) × (r ≤ 1) ⌝ }
-{
-    if stands(x, held) {
-        return 1;
-    }
-    0
-}
-
 // How many combinations stand in a section.
-fn size(m: usize, t: &[u32], held: bool) -> usize
-    requires { ⌜ (m ≤ 5) × (entries ≤ length (now t)) ⌝ }
-    ensures { λ r. ⌜ (r ≡ countOf held m (now (t .entry))) × (r ≤ 32) ⌝ }
+fn size(m: usize, t: &[u32], unset: u32) -> u64
+    requires { ⌜ m ≤ mostMarks ⌝ }
+    requires { ⌜ entries ≤ length (now t) ⌝ }
+    ensures { λ r. ⌜ (r ≡ countOf unset m (now (t .entry))) × (r ≤ 32) ⌝ }
 {
     let n = boxes::power2(m);
-    let mut k: usize = 0;
+    let mut size: u64 = 0;
     for c in 0..n {
         let b = boxes::single(m, c);
-        k = k + one(wide(t[b]), held);
+        if t[b] != unset {
+            size += 1;
+        }
     }
-    k
+    size
 }
 
-// The form, of a combinations in the class and b that hold something.
-fn put_form(out: &mut [u8], m: usize, outside: &[u32], held: &[u32], a: usize, b: usize) -> usize
-    requires { ⌜ (m ≤ 5) × (entries ≤ length (now outside)) × (entries ≤ length (now held)) × (a ≡ countOf false m (now outside)) × (b ≡ countOf true m (now held)) × (length (form (told m (now outside) (now held))) ≤ length (now out)) ⌝ }
-    ensures { λ r. ⌜ Wrote (now (out .entry)) 0 (form (told m (now (outside .entry)) (now (held .entry)))) r (now (out .exit)) ⌝ }
+// A section of n combinations: its count, and those.
+fn put_section(out: &mut [u8], at: usize, m: usize, t: &[u32], section: Section, n: u64) -> usize
+    requires { ⌜ m ≤ mostMarks ⌝ }
+    requires { ⌜ entries ≤ length (now t) ⌝ }
+    requires { ⌜ n ≡ countOf (unset section) m (now t) ⌝ }
+    requires { ⌜ at + length (sectionOf section m (now t)) ≤ length (now out) ⌝ }
+    ensures { λ r. ⌜ Wrote (now (out .entry)) at (sectionOf section m (now (t .entry))) r (now (out .exit)) ⌝ }
 {
-    let first = ground::put_byte(out, 0, m as u8);
-    let class = put_bytes(out, first, 2, a);
-    let second = put_list(out, class, m, outside, false);
-    let times = put_bytes(out, second, 2, b);
-    put_list(out, times, m, held, true)
+    let first = put_bytes(out, at, 2, n);
+    put_list(out, first, m, t, section.bytes_behind(), section.unset())
 }
 
-pub fn write(sheet: Sheet, out: &mut [u8]) -> Value
+// Writes a sheet that is known to be sound: no entry is tested again.
+pub fn write_sound(sheet: Sheet, out: &mut [u8]) -> Value
+    requires { ⌜ Ready mostMarks sheet ⌝ }
     ensures { λ r. ⌜ Writes mostMarks sheet (now (out .entry)) r (now (out .exit)) ⌝ }
 {
     let m = sheet.marks;
     let outside = sheet.outside;
     let held = sheet.held;
-    if !sheet::soundness::ready(m, &outside, &held) {
-        return Value {
-            number: 7,
-            value: 0,
-        };
-    }
-    let a = size(m, &outside, false);
-    let b = size(m, &held, true);
-    if out.len() < 5 + a + b * 5 {
+    let a = size(m, &outside, Section::Class.unset());
+    let b = size(m, &held, Section::Held.unset());
+    if (out.len() as u64) < 5 + a + b * 5 {
         return Value {
             number: 5,
             value: 0,
         };
     }
-    let end = put_form(out, m, &outside, &held, a, b);
+    let first = ground::put_byte(out, 0, m as u8);
+    let middle = put_section(out, first, m, &outside, Section::Class, a);
+    let end = put_section(out, middle, m, &held, Section::Held, b);
     Value {
         number: 0,
         value: end as u64,
     }
+}
+
+// Writes a sheet's form in front of the lent area, and answers its length; or the number of a refusal.
+pub fn write(sheet: Sheet, out: &mut [u8]) -> Value
+    ensures { λ r. ⌜ Writes mostMarks sheet (now (out .entry)) r (now (out .exit)) ⌝ }
+{
+    if !sheet.ready() {
+        return Value {
+            number: 7,
+            value: 0,
+        };
+    }
+    write_sound(sheet, out)
 }

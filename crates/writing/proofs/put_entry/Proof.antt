@@ -1,78 +1,50 @@
--- Nothing, or a byte, or a byte and four.
-use Prim.Native.Nat.{_+_, _≤_}
-use mathlib.Core.Bool.{true, false}
-use mathlib.Core.Path.{_≡_, refl, sym, ap, _∙_}
+-- Nothing, or a byte and k bytes.
+use Prim.Native.Nat.{ℕ, _+_, _≤_}
+use mathlib.Core.Path.{_≡_, sym, ap, _∙_}
+use mathlib.Core.List.{_∷_}
 use native.Mathlib.Omega.{arith}
 use lib.ListN.{length}
-use borrow.Author.Tests.{not-true, not-false}
 use borrow.Author.Needs.{needs}
-use Rattle.writing.proofs.Laws.{entry-none, entry-some}
-use Rattle.writing.specs.Sections.{stands}
 use Rattle.ground.proofs.Areas.{wrote-none, wrote-text, wrote-then}
+use Rattle.stored.specs.Form.{bytes}
 use Rattle.stored.proofs.Numbers.{bytes-length}
+use Rattle.writing.specs.Sections.{entryText}
+use Rattle.writing.proofs.Laws.{entry-none, entry-some}
 use Rattle.writing.proofs.put_entry.Statement.{statement}
 use Rattle.writing.proofs.put_entry.Tie as tie
 
-standing : (c : tie.Else1) → stands (c .before .before .before .args .held) (c .before .before .before .args .x) ≡ true
-standing c = sym (c .before .stands .ensures) ∙ not-false _ (c .if1 .left)
+some : (c : tie.Else1) → entryText (c .before .before .args .k) (c .before .before .args .unset) (c .before .before .args .c) (c .before .before .args .x) ≡ c .before .before .args .c ∷ bytes (c .before .before .args .k) (c .before .before .args .x)
+some c = entry-some (c .before .before .args .k) (c .before .before .args .unset) (c .before .before .args .c) (c .before .before .args .x) (c .if1 .left)
 
-five : (c : tie.Else2) → c .before .before .before .before .before .before .before .before .args .at + 5 ≤ length (c .before .before .before .before .before .before .before .before .args .out .now)
-five c =
-    let s = c .before .before .before .before .before .before .before .before in
-    omega (
-      arith,
-      ap length (entry-some (s .args .held) (s .args .c) (s .args .x) (standing (c .before .before .before .before .before)) true (not-false _ (c .if2 .left))),
-      bytes-length 4 (s .args .x),
-      s .pre .1,
-    )
-
-stands-requires : tie.Need-stands-requires
-stands-requires c κs = search needs
+room : (c : tie.Else1) → c .before .before .args .at + 1 + c .before .before .args .k ≤ length (c .before .before .args .out .now)
+room c = omega (arith, ap length (some c), bytes-length (c .before .before .args .k) (c .before .before .args .x), c .before .before .pre .1)
 
 returns : tie.Need-returns
 returns c =
-    let s = c .before .before .before .args in
-    wrote-text (sym (entry-none (s .held) (s .c) (s .x) (sym (c .before .stands .ensures) ∙ not-true _ (c .if1 .taken)))) (wrote-none (s .out .now) (s .at))
+    let s = c .before .before .args in
+    wrote-text (sym (entry-none (s .k) (s .unset) (s .c) (s .x) (c .if1 .taken))) (wrote-none (s .out .now) (s .at))
 
 cast-put-byte : tie.Need-cast-put-byte
 cast-put-byte c = search needs
 
 put-byte-requires : tie.Need-put-byte-requires
-put-byte-requires c κs =
-    let s = c .before .before .before .before in
-    omega (arith, ap length (entry-some (s .args .held) (s .args .c) (s .args .x) (standing (c .before)) (s .args .held) refl), s .pre .1)
+put-byte-requires c κs = omega (arith, room (c .before))
+
+wide-requires : tie.Need-wide-requires
+wide-requires c κs = search needs
+
+put-bytes-requires : tie.Need-put-bytes-requires
+put-bytes-requires c κs = omega (arith, room (c .before .before .before .before .before .before), c .before .before .before .before .put-byte .ensures .place, c .before .before .before .before .put-byte .kept .0)
 
 same-length : tie.Need-same-length
 same-length c = search needs
 
 returns-2 : tie.Need-returns-2
 returns-2 c =
-    let s = c .before .before .before .before .before .before .before .before .args in
-    wrote-text (sym (entry-some (s .held) (s .c) (s .x) (standing (c .before .before .before .before .before)) false (not-true _ (c .if2 .taken)))) (c .before .before .before .put-byte .ensures)
-
-put-bytes-requires : tie.Need-put-bytes-requires
-put-bytes-requires c κs =
-    omega (arith, five (c .before), c .before .before .before .before .put-byte .ensures .place, c .before .before .before .before .put-byte .kept .0)
-
-same-length-2 : tie.Need-same-length-2
-same-length-2 c = search needs
-
-returns-3 : tie.Need-returns-3
-returns-3 c =
-    let s = c .before .before .before .before .before .before .before .before .before .before .before .before .args in
-    wrote-text (sym (entry-some (s .held) (s .c) (s .x) (standing (c .before .before .before .before .before .before .before .before .before)) true (not-false _ (c .before .before .before .before .if2 .left))))
-    (wrote-then (c .before .before .before .before .before .before .before .put-byte .ensures) (c .before .before .put-bytes .ensures) (omega (arith, five (c .before .before .before .before), bytes-length 4 (s .x))))
+    let s = c .before .before .before .before .before .before .before .before .before .before .before .args in
+    let w = wrote-text (ap (bytes (s .k)) (c .before .before .before .wide .ensures .0)) (c .before .before .put-bytes .ensures) in
+    wrote-text (sym (some (c .before .before .before .before .before .before .before .before .before))) (wrote-then (c .before .before .before .before .before .before .before .put-byte .ensures) w (omega (arith, room (c .before .before .before .before .before .before .before .before .before), bytes-length (s .k) (s .x))))
 
 pub put-entry-spec : {M : Type 1} → statement M
 put-entry-spec =
-    tie.close
-    (tie.spec
-    stands-requires
-    returns
-    cast-put-byte
-    put-byte-requires
-    same-length
-    returns-2
-    put-bytes-requires
-    same-length-2
-    returns-3)
+    tie.close (tie.spec returns cast-put-byte put-byte-requires wide-requires put-bytes-requires same-length returns-2)

@@ -1,47 +1,55 @@
 -- The combinations below c are counted.
-use Prim.Native.Nat.{ℕ, _+_, _-_, _^_, _≤_}
+use Prim.Native.Nat.{ℕ, _+_, _-_, _^_, _≤_, _<_}
+use mathlib.Core.Logic.{⊎-elim}
 use mathlib.Core.Path.{_≡_, refl, sym, ap, _∙_}
 use native.Mathlib.Omega.{arith}
-use native.Mathlib.Nat.{pow-le-pow-right}
-use borrow.Author.Needs.{needs}
-use Rattle.writing.proofs.Laws.{own-read, sum-step}
-use Rattle.writing.specs.Sections.{stands}
-use Rattle.stored.proofs.Listed.{count}
-use Rattle.tables.specs.Tables.{own}
+use native.Mathlib.Nat.{add-zero, pow-le-pow-right}
 use Rattle.boxes.specs.Sums.{sum, only}
+use Rattle.tables.specs.Tables.{entry, own}
+use Rattle.sheet.specs.Limits.{mostMarks, entries}
+use Rattle.sheet.proofs.Opening.{combinations-fit}
+use Rattle.stored.proofs.Listed.{count}
+use Rattle.writing.specs.Sections.{isSet}
+use Rattle.writing.proofs.Laws.{own-read, sum-step, set-one, unset-none}
 use Rattle.writing.proofs.size.Statement.{statement}
 use Rattle.writing.proofs.size.Tie as tie
 
 abbrev Inv-loop : tie.InvT-loop
-Inv-loop m t held n k₀ c₀ k c = (c ≤ n) × (n ≡ 2 ^ m) × (n ≤ 32) × (k ≤ c) × (k ≡ count (λ j. stands held (own m t j)) c)
+Inv-loop m t unset n size₀ c₀ size c = (c ≤ n) × (n ≡ 2 ^ m) × (size ≤ c) × (size ≡ count (λ j. isSet unset (own m t j)) c)
 
 abbrev μ-loop : tie.MeasureT-loop
-μ-loop m t held n k₀ c₀ k c = n - c
+μ-loop m t unset n size₀ c₀ size c = n - c
 
 power2-requires : tie.Need-power2-requires Inv-loop μ-loop
 power2-requires c κs = omega arith
 
 loop-holds : tie.Need-loop-holds Inv-loop μ-loop
 unfolding sum
-loop-holds c = (omega arith, c .power2 .ensures .0, omega (arith, c .power2 .ensures .0, pow-le-pow-right {n = 2} (omega arith) {i = c .before .before .args .m} {j = 5} (c .before .before .pre .0)), omega arith, refl)
+loop-holds c = (omega arith, c .power2 .ensures .0, omega arith, refl)
+
+inside : (c : tie.After-single Inv-loop μ-loop) → c .single .result < entries
+inside c = omega (arith, c .single .ensures .1, pow-le-pow-right {n = 3} (omega arith) {i = c .before .before .before .before .before .args .m} {j = mostMarks} (c .before .before .before .before .before .pre .0))
+
+-- what the next combination adds
+next : (c : tie.After-single Inv-loop μ-loop) (x : ℕ) → only (isSet (c .before .before .before .before .before .args .unset) (entry (c .before .before .before .before .before .args .t .now) (c .single .result))) 1 ≡ x
+    → c .before .before .loop .size + x ≡ count (λ j. isSet (c .before .before .before .before .before .args .unset) (own (c .before .before .before .before .before .args .m) (c .before .before .before .before .before .args .t .now) j)) (c .before .before .loop .c + 1)
+next c x e =
+    let s = c .before .before .before .before .before .args in
+    let l = c .before .before .loop in
+    let same = own-read (s .m) (s .t .now) (l .c) (c .single .result) (c .single .ensures .0) in
+    ap (λ (y : ℕ). y + x) (l .inv .3) ∙ sum-step (λ j. only (isSet (s .unset) (own (s .m) (s .t .now) j)) 1) (l .c) x (ap (λ (y : ℕ). only (isSet (s .unset) y) 1) same ∙ e)
 
 single-requires : tie.Need-single-requires Inv-loop μ-loop
 single-requires c κs = omega arith
 
-mul-wide : tie.Need-mul-wide Inv-loop μ-loop
-mul-wide c = omega (arith, c .single .ensures .1, pow-le-pow-right {n = 3} (omega arith) {i = c .before .before .before .before .before .args .m} {j = 5} (c .before .before .before .before .before .pre .0))
+mul-if1 : tie.Need-mul-if1 Inv-loop μ-loop
+mul-if1 c = omega (arith, inside c)
 
-shared-slice-read-wide : tie.Need-shared-slice-read-wide Inv-loop μ-loop
-shared-slice-read-wide c = let s = c .before .before .before .before .before .before in omega (arith, c .before .single .ensures .1, s .pre .1, pow-le-pow-right {n = 3} (omega arith) {i = s .args .m} {j = 5} (s .pre .0))
+shared-slice-read-if1 : tie.Need-shared-slice-read-if1 Inv-loop μ-loop
+shared-slice-read-if1 c = omega (arith, inside (c .before), c .before .before .before .before .before .before .pre .1)
 
-wide-requires : tie.Need-wide-requires Inv-loop μ-loop
-wide-requires c κs = search needs
-
-one-requires : tie.Need-one-requires Inv-loop μ-loop
-one-requires c κs = search needs
-
-add-k : tie.Need-add-k Inv-loop μ-loop
-add-k c = omega arith
+add-size : tie.Need-add-size Inv-loop μ-loop
+add-size c = omega (arith, combinations-fit (c .before .before .before .before .before .before .before .args .m) (c .before .before .before .before .before .before .before .pre .0), c .before .before .before .before .loop .inv .1)
 
 add-c : tie.Need-add-c Inv-loop μ-loop
 add-c c = omega arith
@@ -51,15 +59,13 @@ loop-less c = omega arith
 
 loop-again : tie.Need-loop-again Inv-loop μ-loop
 loop-again c =
-    let l = c .before .before .before .before .before .loop in
-    let s = c .before .before .before .before .before .before .before .before .args in
-    let e = own-read (s .m) (s .t .now) (l .c) (c .before .before .before .single .result) (c .before .wide .result) (c .before .before .before .single .ensures .0) (c .before .wide .ensures .0) in (
+    let l = c .before .before .before .before .loop in
+    let s = c .before .before .before .before .before .before .before .args in (
       omega arith,
       l .inv .1,
-      l .inv .2,
-      omega (arith, c .one .ensures .1),
-      ap (λ (x : ℕ). x + c .one .result) (l .inv .4)
-          ∙ sum-step (λ j. only (stands (s .held) (own (s .m) (s .t .now) j)) 1) (l .c) (c .one .result) (ap (λ (x : ℕ). only (stands (s .held) x) 1) e ∙ sym (c .one .ensures .0)),
+      ⊎-elim (λ w. omega (arith, w .1)) (λ w. omega (arith, w .1)) (c .if1 .came),
+      ⊎-elim (λ w. w .1 ∙ next (c .before .before) 1 (set-one (s .unset) _ (w .0 .taken)))
+          (λ w. w .1 ∙ sym (add-zero (l .size)) ∙ next (c .before .before) 0 (unset-none (s .unset) _ (w .0 .left))) (c .if1 .came),
     )
 
 returns : tie.Need-returns Inv-loop μ-loop
@@ -67,7 +73,7 @@ returns c =
     let l = c .before .loop in
     let s = c .before .before .before .before .args in
     let e : l .c ≡ 2 ^ s .m = omega (arith, l .inv .1) in
-    (l .inv .4 ∙ ap (count (λ j. stands (s .held) (own (s .m) (s .t .now) j))) e, omega (arith, l .inv .2, l .inv .3))
+    (l .inv .3 ∙ ap (count (λ j. isSet (s .unset) (own (s .m) (s .t .now) j))) e, omega (arith, l .inv .2, combinations-fit (s .m) (c .before .before .before .before .pre .0)))
 
 pub size-spec : {M : Type 1} → statement M
 size-spec =
@@ -78,11 +84,9 @@ size-spec =
     power2-requires
     loop-holds
     single-requires
-    mul-wide
-    shared-slice-read-wide
-    wide-requires
-    one-requires
-    add-k
+    mul-if1
+    shared-slice-read-if1
+    add-size
     add-c
     loop-less
     loop-again

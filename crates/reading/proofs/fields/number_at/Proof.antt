@@ -26,14 +26,14 @@ sub-j-2 c = omega arith
 mul-n : tie.Need-mul-n Inv-loop μ-loop
 mul-n c = let l = c .before .loop in omega (arith, number-small (l .n) (l .i) (l .inv .2) (omega arith))
 
-add-wide : tie.Need-add-wide Inv-loop μ-loop
-add-wide c = omega arith
+add-byte : tie.Need-add-byte Inv-loop μ-loop
+add-byte c = omega arith
 
-shared-slice-read-wide : tie.Need-shared-slice-read-wide Inv-loop μ-loop
-shared-slice-read-wide c = omega arith
+shared-slice-read-byte : tie.Need-shared-slice-read-byte Inv-loop μ-loop
+shared-slice-read-byte c = omega arith
 
-wide-requires : tie.Need-wide-requires Inv-loop μ-loop
-wide-requires c κs = search needs
+byte-requires : tie.Need-byte-requires Inv-loop μ-loop
+byte-requires c κs = search needs
 
 add-n : tie.Need-add-n Inv-loop μ-loop
 add-n c = let l = c .before .before .before .loop in omega (arith, number-small (l .n) (l .i) (l .inv .2) (omega arith))
@@ -49,8 +49,8 @@ loop-again c =
     let l = c .before .before .before .loop in
     let s = c .before .before .before .before .before in (
       omega arith,
-      number-grows (s .args .t .now) (s .args .at) (s .args .k) (l .i) (l .n) (c .wide .result) (omega arith) (omega arith) (l .inv .1) (c .wide .ensures .0),
-      number-fits (l .n) (l .i) (c .wide .result) (l .inv .2) (c .wide .ensures .1),
+      number-grows (s .args .t .now) (s .args .at) (s .args .k) (l .i) (l .n) (c .byte .result) (omega arith) (omega arith) (l .inv .1) (c .byte .ensures .0),
+      number-fits (l .n) (l .i) (c .byte .result) (l .inv .2) (c .byte .ensures .1),
     )
 
 returns : tie.Need-returns Inv-loop μ-loop
@@ -70,9 +70,9 @@ number-at-spec =
     sub-j
     sub-j-2
     mul-n
-    add-wide
-    shared-slice-read-wide
-    wide-requires
+    add-byte
+    shared-slice-read-byte
+    byte-requires
     add-n
     add-i
     loop-less
