@@ -83,6 +83,10 @@ sum-exchange n (b ∷ l) f = omega (arith, sum-exchange n l f, sum-add n (f b) (
 
 -- a test in front of a term
 
+pub only-zero : (a : Bool) → only a 0 ≡ 0
+only-zero true = refl
+only-zero false = refl
+
 pub only-and : (a e : Bool) (x : ℕ) → only (a && e) x ≡ only a (only e x)
 only-and true e x = refl
 only-and false e x = refl

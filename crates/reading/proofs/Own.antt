@@ -2,14 +2,14 @@
 -- These facts go by cases on the section.
 use Prim.Native.Nat.{ℕ, _+_, _-_, _^_, _≤_, _<_}
 use mathlib.Core.Path.{_≡_, refl, sym, ap, _∙_, fun-ext}
-use mathlib.Core.Bool.{Bool, true, false, _&&_}
+use mathlib.Core.Bool.{Bool, true, false, _&&_, and-false}
 use mathlib.Core.List.{List}
 use native.Mathlib.Omega.{arith}
 use lib.Dec.{eqb, ltb}
 use lib.ListN.{length, set}
 use lib.Seq.{getD-set-same, getD-set-other}
 use borrow.Author.Tests.{le-leb, lt-leb, lt-ltb, le-ltb, ltb-false}
-use Rattle.ground.proofs.Cases.{below-or, same-or, and-no}
+use Rattle.ground.proofs.Cases.{below-or, same-or}
 use Rattle.boxes.specs.Sums.{only}
 use Rattle.boxes.proofs.Sums.{only-zero}
 use Rattle.tables.specs.Tables.{entry}
@@ -36,7 +36,7 @@ pub own-start : (s : Section) (f : ℕ → ℕ) {m : ℕ} {r : Record} → Befor
 own-start Class f {m} {r} b h =
     ap (λ (g : ℕ → Bool). record { marks = r .marks; class = g; times = r .times })
     (fun-ext (λ c. below-or c (2 ^ r .marks)
-    (λ l. ap (λ (x : ℕ). ltb c (2 ^ r .marks) && eqb x 0) (h c (omega (arith, ap (λ (x : ℕ). 2 ^ x) (b .marks)))) ∙ and-no (ltb c (2 ^ r .marks)) ∙ sym (b .none c))
+    (λ l. ap (λ (x : ℕ). ltb c (2 ^ r .marks) && eqb x 0) (h c (omega (arith, ap (λ (x : ℕ). 2 ^ x) (b .marks)))) ∙ and-false (ltb c (2 ^ r .marks)) ∙ sym (b .none c))
     (λ l. ap (λ (x : Bool). x && eqb (f c) 0) (le-ltb c (2 ^ r .marks) l) ∙ sym (b .none c))))
 own-start Held f {m} {r} b h =
     ap (λ (g : ℕ → ℕ). record { marks = r .marks; class = r .class; times = g })
@@ -67,7 +67,7 @@ module _ (own : List ℕ) (c x : ℕ) (h : c < length own) where
 
 -- a combination that the section does not list
 pub own-none : (s : Section) (f : ℕ → ℕ) (r : Record) (c : ℕ) → f c ≡ unset s → standsIn s (withOwn s f r) c ≡ false
-own-none Class f r c e = ap (λ (x : ℕ). ltb c (2 ^ r .marks) && eqb x 0) e ∙ and-no (ltb c (2 ^ r .marks))
+own-none Class f r c e = ap (λ (x : ℕ). ltb c (2 ^ r .marks) && eqb x 0) e ∙ and-false (ltb c (2 ^ r .marks))
 own-none Held f r c e = ap (λ (x : ℕ). ltb 0 (only (ltb c (2 ^ r .marks)) x)) e ∙ ap (ltb 0) (only-zero (ltb c (2 ^ r .marks)))
 
 pub unset-most : (s : Section) → unset s ≤ mostOwn s

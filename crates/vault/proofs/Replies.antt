@@ -1,24 +1,30 @@
 -- An entry's two ways: the bytes are no sheet, or the call's own answer goes into the reply.
-use Prim.Native.Nat.{ℕ}
-use mathlib.Core.Path.{_≡_, refl, sym, subst}
+use Prim.Native.Nat.{ℕ, _<_}
+use mathlib.Core.Path.{_≡_, refl, sym, _∙_, ap, subst}
 use mathlib.Core.List.{List}
 use Rattle.lists.specs.Lists.{Before}
-use lib.ListN.{length}
+use native.Mathlib.Omega.{arith}
+use lib.ListN.{length, getD}
 use Rattle.tables.proofs.Entries.{tab-length}
 use Rattle.sheet.specs.Limits.{mostMarks, entries}
 use Rattle.sheet.specs.Record.{Record, Table, outside-counts, held-seconds, kept, opened, sheetOf}
 use Rattle.sheet.specs.Promises.{Long}
+use Rattle.sheet.specs.Sound.{Ready, classOf, sizeOf, recordOf}
+use Rattle.sheet.specs.Calls.{ClassSize}
+use Rattle.sheet.proofs.Keeps.{class-of-ready}
+use Rattle.listing.specs.Listing.{totalOf, Totalled}
 use Rattle.sheet.specs.declared.Sheet.{Sheet}
 use Rattle.sheet.specs.declared.Answer.{Answer}
 use Rattle.sheet.specs.declared.Value.{Value}
 use Rattle.stored.specs.Answers.{readOf, Reads, Writes}
 use Rattle.stored.specs.Fields.{Outcome, good, refused}
 use Rattle.stored.specs.declared.Read.{Read}
+use Rattle.stored.proofs.Trips.{read-sound}
 use Rattle.vault.specs.declared.Reply.{Reply}
 use Rattle.vault.specs.Entries.{replied, Holds, HoldsNone, Put, Changes, Tells, Lends, Compared}
 
 pub holds : {t : List ℕ} {a : Read} → Reads mostMarks entries t a → a .number ≡ 0 → Holds t (a .sheet)
-holds {t} {a} reads good = record { read = a; reads = reads; good = good; sheet = refl }
+holds {t} {a} reads done = record { read = a; reads = reads; good = done; sheet = refl }
 
 pub holds-none : {t : List ℕ} {a : Read} {r : Reply} → Reads mostMarks entries t a → (a .number ≡ 0 → ⊥)
     → r ≡ record { answer = a .number; place = a .place; value = 0 } → HoldsNone t r
@@ -47,6 +53,14 @@ pub value-lent : (call : Sheet → List ℕ → Value → List ℕ → Type 0) {
     → call s area v later → r ≡ replied (v .number) (v .value) → Lends call t area r later
 value-lent call {t} {area} {later = later} k w e = subst (λ (x : Reply). Lends call t area x later) (sym e) (Lends.lent k w)
 
+-- what a sound sheet answers
+
+pub size-answered : {s : Sheet} {n : ℕ} {v : Value} → Ready mostMarks s → n ≡ sizeOf (s .marks) (classOf (s .marks) (s .outside)) → v ≡ record { number = 0; value = n } → ClassSize mostMarks s v
+size-answered {s} ready e f = subst (ClassSize mostMarks s) (sym (f ∙ ap (λ (x : ℕ). record { number = 0; value = x }) e)) (ClassSize.told (class-of-ready ready))
+
+pub total-answered : {s : Sheet} {n : ℕ} {v : Value} → Ready mostMarks s → n ≡ totalOf (recordOf s) → v ≡ record { number = 0; value = n } → Totalled mostMarks s v
+total-answered {s} ready e f = subst (Totalled mostMarks s) (sym (f ∙ ap (λ (x : ℕ). record { number = 0; value = x }) e)) (Totalled.told ready)
+
 -- two lists
 
 pub second-before : (first second : List ℕ) {r : Reply} → Before second first → r ≡ replied 0 1 → Compared first second r
@@ -65,6 +79,10 @@ holds-long {t} {a} x = subst (λ (y : Read). Long entries (y .sheet)) (sym (x .i
     long : (o : Outcome) → Long entries (readOf entries o .sheet)
     long (good r) = afresh-long r
     long (refused n p) = afresh-long (opened 1)
+
+-- and is sound
+pub holds-ready : (t : List ℕ) {a : Read} → ((i : ℕ) → getD t i 0 < 256) → Reads mostMarks entries t a → Ready mostMarks (a .sheet)
+holds-ready t b x = read-sound mostMarks entries (omega arith) (omega arith) t b x
 
 -- an answer that is known
 pub put-as : {a z : Answer} (out : List ℕ) {r : Reply} {later : List ℕ} → a ≡ z → Put a out r later → Put z out r later

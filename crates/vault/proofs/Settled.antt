@@ -75,8 +75,8 @@ vault-size-settled = tells-settled (λ s v w. size-settled)
 pub vault-total-settled : {t : List ℕ} {r z : Reply} → Tells (Totalled mostMarks) t r → Tells (Totalled mostMarks) t z → r ≡ z
 vault-total-settled = tells-settled (λ s v w. total-settled)
 
-pub vault-kept-settled : {k : Table} {b : ℕ} {t : List ℕ} {r z : Reply} → Tells (KeptAt k b) t r → Tells (KeptAt k b) t z → r ≡ z
-vault-kept-settled = tells-settled (λ s v w p q. p ∙ sym q)
+pub vault-kept-settled : (k : Table) (b : ℕ) {t : List ℕ} {r z : Reply} → Tells (KeptAt k b) t r → Tells (KeptAt k b) t z → r ≡ z
+vault-kept-settled k b = tells-settled (λ s v w p q. p ∙ sym q)
 
 pub vault-list-settled : {t area x y : List ℕ} {r z : Reply} → Lends (Listed mostMarks) t area r x → Lends (Listed mostMarks) t area z y → (r ≡ z) × (x ≡ y)
 vault-list-settled = lends-settled (λ s area v w x y. list-settled)

@@ -1,38 +1,28 @@
+-- The bytes hold a sound sheet, or none.
 use borrow.Author.Needs.{needs}
+use Rattle.sheet.proofs.Keeps.{class-of-ready}
 use Rattle.vault.specs.Entries.Lends.{unread}
-use Rattle.vault.proofs.Replies.{takes, untaken, value-lent}
+use Rattle.vault.proofs.Replies.{holds, holds-none, holds-ready, value-lent}
 use Rattle.vault.proofs.vault_list.Statement.{statement}
 use Rattle.vault.proofs.vault_list.Tie as tie
 
-read-requires : tie.Need-read-requires
-read-requires c κs = search needs
-
-unread-requires : tie.Need-unread-requires
-unread-requires c κs = search needs
-
 returns : tie.Need-returns
-returns c = unread (untaken (c .before .before .before .read .ensures) (c .before .if1 .taken) (c .unread .ensures))
+returns c = unread (holds-none (c .before .before .before .read .ensures) (c .before .if1 .taken) (c .unread .ensures))
 
-list-requires : tie.Need-list-requires
-list-requires c κs = search needs
-
-replied-requires : tie.Need-replied-requires
-replied-requires c κs = search needs
-
-same-length : tie.Need-same-length
-same-length c = search needs
+list-sound-requires : tie.Need-list-sound-requires
+list-sound-requires c κs = class-of-ready (holds-ready _ (λ i. c .before .before .before .before .before .before .shared-slice-known .given i .fits) (c .before .before .before .before .read .ensures))
 
 returns-2 : tie.Need-returns-2
-returns-2 c = value-lent _ (takes (c .before .before .before .before .before .before .before .before .read .ensures) (c .before .before .before .before .before .before .if1 .left)) (c .before .before .before .list .ensures) (c .replied .ensures)
+returns-2 c = value-lent _ (holds (c .before .before .before .before .before .before .before .before .read .ensures) (c .before .before .before .before .before .before .if1 .left)) (c .before .before .before .list-sound .ensures) (c .replied .ensures)
 
 pub vault-list-spec : {M : Type 1} → statement M
 vault-list-spec =
     tie.close
     (tie.spec
-    read-requires
-    unread-requires
+    (λ c κs. search needs)
+    (λ c κs. search needs)
     returns
-    list-requires
-    replied-requires
-    same-length
+    list-sound-requires
+    (λ c κs. search needs)
+    (λ c. search needs)
     returns-2)
