@@ -12,11 +12,12 @@ use Rattle.ground.proofs.Cases.{below-or, same-or, clash}
 use Rattle.tables.specs.Tables.{entry}
 use Rattle.sheet.specs.Limits.{mostMarks, mostHeld}
 use Rattle.sheet.specs.Record.{Record}
-use Rattle.stored.specs.Sections.{bytesBehind, unset, heldIn, added}
+use Rattle.stored.specs.Sections.{bytesBehind, heldIn, added}
+use Rattle.stored.specs.Parts.{unset}
 use Rattle.stored.specs.Fields.{Next, due, count, combination, behind, sectionsDue, entriesDue, judge, refused, Run}
 use Rattle.stored.specs.declared.Section.{Section}
 use Rattle.stored.proofs.Sections.{held-more}
-use Rattle.reading.specs.Parts.{FieldRead, Leads, least, mostOwn, withOwn, Before, Got, PartRead, bad, good}
+use Rattle.reading.specs.Parts.{FieldRead, Leads, least, withOwn, Before, Got, PartRead, bad, good}
 use Rattle.reading.specs.declared.fields.Field.{Field}
 use Rattle.reading.specs.declared.sections.Part.{Part}
 use Rattle.reading.proofs.Offsets.{start as at-start, then, then-run, field-inside, field-number, field-taken, field-wrong}

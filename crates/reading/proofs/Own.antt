@@ -15,7 +15,8 @@ use Rattle.boxes.proofs.Sums.{only-zero}
 use Rattle.tables.specs.Tables.{entry}
 use Rattle.sheet.specs.Limits.{mostHeld}
 use Rattle.sheet.specs.Record.{Record}
-use Rattle.stored.specs.Sections.{bytesBehind, standsIn, unset, heldIn, mayStand, added, updated}
+use Rattle.stored.specs.Sections.{bytesBehind, standsIn, mayStand, added, updated}
+use Rattle.stored.specs.Parts.{unset}
 use Rattle.stored.specs.declared.Section.{Section}
 use Rattle.stored.specs.declared.Section.the-variants.{Class, Held}
 use Rattle.stored.proofs.UpTo.{updated-here, updated-other}

@@ -2,7 +2,7 @@
 use Prim.Native.Nat.{ℕ, _^_, _≤_, _<_}
 use mathlib.Core.Path.{_≡_, refl, sym, ap, _∙_}
 use mathlib.Core.Bool.{Bool, true, false, not, _&&_}
-use mathlib.Core.List.{List, [], _∷_}
+use mathlib.Core.List.{List}
 use native.Mathlib.Omega.{arith}
 use lib.Dec.{eqb}
 use lib.ListN.{length, getD}
@@ -12,7 +12,7 @@ use Rattle.boxes.specs.Sums.{sum, only}
 use Rattle.boxes.proofs.Boxes.{sumIn-all}
 use Rattle.boxes.proofs.Sums.{sum-zero, sum-ext, sum-le, sum-ones}
 use Rattle.tables.specs.Tables.{entry}
-use Rattle.sheet.specs.Limits.{mostMarks, entries, marksOk, mostHeld}
+use Rattle.sheet.specs.Limits.{mostMarks, entries, marksOk}
 use Rattle.sheet.specs.Record.{Record, opened, outOf, sheetFrom, Addable}
 use Rattle.sheet.specs.declared.Sheet.{Sheet}
 use Rattle.sheet.proofs.Opening.{combinations-fit, sheet-same}

@@ -16,13 +16,13 @@ use Rattle.sheet.specs.Limits.{marksOk, mostHeld}
 use Rattle.sheet.specs.Record.{Record, opened}
 use Rattle.stored.specs.Sections.{sections, bytesBehind, standsIn, numberBehind, heldIn, mayStand, added}
 use Rattle.stored.specs.Fields.{numberIn, behind, due, sectionsDue, entriesDue, judge, good, Run, Reading}
-use Rattle.stored.specs.Form.{bytes, listed, entryOf, entriesOf, section, sectionsOf, form}
+use Rattle.stored.specs.Form.{bytes, listed, entryOf, section, form}
 use Rattle.stored.specs.declared.Section.{Section}
 use Rattle.stored.specs.declared.Section.the-variants.{Class, Held}
 use Rattle.stored.proofs.Runs.{took, passed, ended}
 use Rattle.stored.proofs.Numbers.{Bytes, bytes-drop, bytes-split, byte-split, number-below}
 use Rattle.stored.proofs.Listed.{count, listed-ext, listed-skip, count-skip, listed-take, count-take}
-use Rattle.stored.proofs.Sections.{OnlyIn, only-same, only-then, added-only, stands-here, stands-other, entry-here, entry-other, held-more, held-most}
+use Rattle.stored.proofs.Sections.{OnlyIn, class-not-held, only-same, only-then, added-only, stands-here, stands-other, entry-here, entry-other, held-more, held-most}
 
 -- a record that has a stored form
 pub record Storable (most : ℕ) (r : Record) : Type 0 where
@@ -142,12 +142,6 @@ pub record IsForm (most : ℕ) (t : List ℕ) (r : Record) : Type 0 where
   pub within : Within r
   pub bytes : t ≡ form r
 
-not-held : _≡_ {A = Section} Class Held → ⊥
-not-held e = let z : _≡_ {A = ℕ} 0 1 = cc in omega arith
-
-not-class : _≡_ {A = Section} Held Class → ⊥
-not-class e = not-held (sym e)
-
 pub is-form : {most : ℕ} {r : Record} (t : List ℕ) → Bytes t → Reading most t (good r) → IsForm most t r
 unfolding judge form
 is-form {most} {r} t b x =
@@ -157,12 +151,12 @@ is-form {most} {r} t b x =
     let class = section-got Class (Held ∷ []) 1 (opened m) (drop 1 t) (bytes-drop 1 t b) (λ c. refl) (omega (arith, sum-zero (2 ^ m))) (ok .1) in
     let i = class .entries in
     let q = i .value in
-    let held = section-got Held [] (i .at) q (i .tail) (i .tail-bytes) (i .only .stand Held not-class) (i .most-held) (i .run) in
+    let held = section-got Held [] (i .at) q (i .tail) (i .tail-bytes) (λ c. i .only .same Held (λ e. class-not-held (sym e)) c .0) (i .most-held) (i .run) in
     let j = held .entries in
     let v = j .value in
     let last = ended (j .run) in
     let em : v .marks ≡ m = j .only .marks ∙ i .only .marks in
-    let same : (c : ℕ) → v .class c ≡ q .class c = j .only .stand Class not-held in
+    let same : (c : ℕ) → v .class c ≡ q .class c = λ c. j .only .same Class class-not-held c .0 in
     let e : t ≡ form v =
     byte-split t (w .0)
     ∙ ap₂ (λ (y : ℕ) (l : List ℕ). y ∷ l) (sym em)

@@ -9,7 +9,7 @@ use Rattle.boxes.specs.Sums.{sum}
 use Rattle.sheet.specs.Limits.{mostMarks, entries, marksOk}
 use Rattle.sheet.specs.Record.{Record, opened}
 use Rattle.stored.specs.declared.Read.{Read}
-use Rattle.stored.specs.Fields.{numberIn, marks, count, due, end, sectionsDue, judge, refused, good, Reading, over, early, faulty}
+use Rattle.stored.specs.Fields.{numberIn, marks, count, end, sectionsDue, judge, refused, good, Reading, over, early, faulty}
 use Rattle.stored.specs.Sections.{sections}
 use Rattle.stored.specs.declared.Section.the-variants.{Class, Held}
 use Rattle.stored.specs.Answers.{readOf, Reads}

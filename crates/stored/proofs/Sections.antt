@@ -1,9 +1,9 @@
 -- What an entry changes of a record: the combination stands in its section with the number behind it, and nothing else does otherwise than before.
 -- These are the facts that go by cases on the section; all other laws are over any section.
 use Prim.Native.Nat.{ℕ, _+_, _^_, _≤_, _<_}
-use mathlib.Core.Path.{_≡_, refl, sym, ap, _∙_}
-use mathlib.Core.Bool.{Bool, true, false}
-use mathlib.Core.List.{List, _∷_}
+use mathlib.Core.Path.{_≡_, refl, ap, _∙_}
+use mathlib.Core.Bool.{true, false}
+use mathlib.Core.List.{_∷_}
 use native.Mathlib.Omega.{arith}
 use lib.Dec.{leb, ltb}
 use borrow.Author.Tests.{leb-true, ltb-false, lt-ltb}
@@ -20,38 +20,31 @@ use Rattle.stored.proofs.UpTo.{updated-here, updated-other}
 -- q differs from r in the section s alone
 pub record OnlyIn (s : Section) (r q : Record) : Type 0 where
   pub marks : q .marks ≡ r .marks
-  pub stand : (u : Section) → (u ≡ s → ⊥) → (c : ℕ) → standsIn u q c ≡ standsIn u r c
-  pub numbers : (u : Section) → (u ≡ s → ⊥) → (c : ℕ) → numberBehind u q c ≡ numberBehind u r c
+  pub same : (u : Section) → (u ≡ s → ⊥) → (c : ℕ) → (standsIn u q c ≡ standsIn u r c) × (numberBehind u q c ≡ numberBehind u r c)
 
 pub only-same : (s : Section) (r : Record) → OnlyIn s r r
-only-same s r = record { marks = refl; stand = λ u n c. refl; numbers = λ u n c. refl }
+only-same s r = record { marks = refl; same = λ u n c. (refl, refl) }
 
 pub only-then : {s : Section} {r q v : Record} → OnlyIn s r q → OnlyIn s q v → OnlyIn s r v
-only-then x y = record {
-  marks = y .marks ∙ x .marks;
-  stand = λ u n c. y .stand u n c ∙ x .stand u n c;
-  numbers = λ u n c. y .numbers u n c ∙ x .numbers u n c;
-}
+only-then x y = record { marks = y .marks ∙ x .marks; same = λ u n c. (y .same u n c .0 ∙ x .same u n c .0, y .same u n c .1 ∙ x .same u n c .1) }
+
+added-marks : (s : Section) (r : Record) (c x : ℕ) → added s r c x .marks ≡ r .marks
+added-marks Class r c x = refl
+added-marks Held r c x = refl
+
+added-same : (s u : Section) (r : Record) (c x y : ℕ) → (u ≡ s → ⊥)
+    → (standsIn u (added s r c x) y ≡ standsIn u r y) × (numberBehind u (added s r c x) y ≡ numberBehind u r y)
+added-same Class Class r c x y n = absurd (n refl)
+added-same Class Held r c x y n = (refl, refl)
+added-same Held Class r c x y n = (refl, refl)
+added-same Held Held r c x y n = absurd (n refl)
 
 pub added-only : (s : Section) (r : Record) (c x : ℕ) → OnlyIn s r (added s r c x)
-added-only Class r c x = record { marks = refl; stand = stand; numbers = numbers }
-  where
-    stand : (u : Section) → (u ≡ Class → ⊥) → (y : ℕ) → standsIn u (added Class r c x) y ≡ standsIn u r y
-    stand Class n y = absurd (n refl)
-    stand Held n y = refl
+added-only s r c x = record { marks = added-marks s r c x; same = λ u n y. added-same s u r c x y n }
 
-    numbers : (u : Section) → (u ≡ Class → ⊥) → (y : ℕ) → numberBehind u (added Class r c x) y ≡ numberBehind u r y
-    numbers Class n y = refl
-    numbers Held n y = refl
-added-only Held r c x = record { marks = refl; stand = stand; numbers = numbers }
-  where
-    stand : (u : Section) → (u ≡ Held → ⊥) → (y : ℕ) → standsIn u (added Held r c x) y ≡ standsIn u r y
-    stand Class n y = refl
-    stand Held n y = absurd (n refl)
-
-    numbers : (u : Section) → (u ≡ Held → ⊥) → (y : ℕ) → numberBehind u (added Held r c x) y ≡ numberBehind u r y
-    numbers Class n y = refl
-    numbers Held n y = absurd (n refl)
+-- the two are not the same
+pub class-not-held : _≡_ {A = Section} Class Held → ⊥
+class-not-held e = let z : _≡_ {A = ℕ} 0 1 = cc in omega arith
 
 -- in its own section
 pub stands-here : (s : Section) (r : Record) (c sum x : ℕ) → mayStand s sum x ≡ true → standsIn s (added s r c x) c ≡ true

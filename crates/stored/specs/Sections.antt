@@ -27,11 +27,6 @@ abbrev pub numberBehind : Section → Record → ℕ → ℕ
 numberBehind Class r c = 0
 numberBehind Held r c = r .times c
 
--- what a combination that does not stand there has of its own in the sheet's table: an outside count of 1, or no seconds
-abbrev pub unset : Section → ℕ
-unset Class = 1
-unset Held = 0
-
 -- the seconds that a record holds in all
 abbrev pub heldIn : Record → ℕ
 heldIn r = sum (2 ^ r .marks) (r .times)

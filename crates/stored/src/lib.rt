@@ -1,7 +1,8 @@
 // The stored form of a sheet: what it is, and what its reader and its writer promise. The functions are those of `reading` and `writing`.
 ghost use mathlib.Core.Path.{_≡_};
 ghost use Prim.Native.Nat.{_≤_};
-ghost use Rattle.stored.specs.Sections.{bytesBehind, unset};
+ghost use Rattle.stored.specs.Sections.{bytesBehind};
+ghost use Rattle.stored.specs.Parts.{unset};
 use sheet::Sheet;
 
 // What reading gives: the number of 01's table, the place, which is 0 for every number but 10, and the sheet.

@@ -19,7 +19,8 @@ use Rattle.boxes.proofs.Sums.{sum-ext}
 use Rattle.tables.specs.Tables.{entry, own}
 use Rattle.sheet.specs.Sound.{Ready, sizeOf, recordOf}
 use Rattle.sheet.specs.declared.Sheet.{Sheet}
-use Rattle.stored.specs.Sections.{bytesBehind, standsIn, unset}
+use Rattle.stored.specs.Sections.{bytesBehind, standsIn}
+use Rattle.stored.specs.Parts.{unset}
 use Rattle.stored.specs.Form.{bytes, listed, entryOf, section, form}
 use Rattle.stored.specs.Answers.{Writes, written}
 use Rattle.stored.specs.declared.Section.{Section}
@@ -27,7 +28,7 @@ use Rattle.stored.specs.declared.Section.the-variants.{Class, Held}
 use Rattle.stored.proofs.Numbers.{bytes-length}
 use Rattle.stored.proofs.Listed.{listed-ext}
 use Rattle.stored.proofs.Trips.{form-length}
-use Rattle.writing.specs.Sections.{isSet, entryText, countOf, sectionOf}
+use Rattle.writing.specs.Sections.{isSet, entryText, countIn, sectionIn}
 
 same-head : {x y : ℕ} {a b : List ℕ} → (x ∷ a) ≡ (y ∷ b) → x ≡ y
 same-head e = cc
@@ -152,32 +153,32 @@ module _ {most : ℕ} (u : Sheet) (ready : Ready most u) where
   entry-told Class c = refl
   entry-told Held c = refl
 
-  count-told : (s : Section) → countOf (unset s) (u .marks) (tableOf s u) ≡ sizeOf (u .marks) (standsIn s (recordOf u))
+  count-told : (s : Section) → countIn (unset s) (u .marks) (tableOf s u) ≡ sizeOf (u .marks) (standsIn s (recordOf u))
   count-told s = sum-ext (2 ^ u .marks) _ _ (λ c l. ap (λ (b : Bool). only b 1) (stands-told s c l))
 
-  section-told : (s : Section) → sectionOf s (u .marks) (tableOf s u) ≡ section s (recordOf u)
+  section-told : (s : Section) → sectionIn s (u .marks) (tableOf s u) ≡ section s (recordOf u)
   section-told s = ap₂ (λ (n : ℕ) (l : List ℕ). bytes 2 n ++ l) (count-told s) (listed-ext _ _ _ _ (2 ^ u .marks) (stands-told s) (λ c l. entry-told s c))
 
   -- the form from its three pieces, and its length from the two counts
   abbrev pub pieces : List ℕ
-  pieces = ((u .marks ∷ []) ++ sectionOf Class (u .marks) (u .outside)) ++ sectionOf Held (u .marks) (u .held)
+  pieces = ((u .marks ∷ []) ++ sectionIn Class (u .marks) (u .outside)) ++ sectionIn Held (u .marks) (u .held)
 
   pub pieces-form : pieces ≡ form (recordOf u)
   unfolding form
   pieces-form = ap₂ (λ (x y : List ℕ). u .marks ∷ (x ++ y)) (section-told Class) (section-told Held ∙ sym (append-nil (section Held (recordOf u))))
 
-  pub length-told : length (form (recordOf u)) ≡ 5 + countOf (unset Class) (u .marks) (u .outside) + countOf (unset Held) (u .marks) (u .held) * 5
+  pub length-told : length (form (recordOf u)) ≡ 5 + countIn (unset Class) (u .marks) (u .outside) + countIn (unset Held) (u .marks) (u .held) * 5
   length-told = omega (arith, form-length (recordOf u), count-told Class, count-told Held)
 
   -- a form whose pieces were put is written
   pub pieces-written : {out o₁ o₂ o₃ : List ℕ} {p₁ p₂ p₃ : ℕ} → length (form (recordOf u)) ≤ length out → Wrote out 0 (u .marks ∷ []) p₁ o₁
-      → Wrote o₁ p₁ (sectionOf Class (u .marks) (u .outside)) p₂ o₂ → Wrote o₂ p₂ (sectionOf Held (u .marks) (u .held)) p₃ o₃
+      → Wrote o₁ p₁ (sectionIn Class (u .marks) (u .outside)) p₂ o₂ → Wrote o₂ p₂ (sectionIn Held (u .marks) (u .held)) p₃ o₃
       → Writes most u out (record { number = 0; value = p₃ }) o₃
   unfolding laid
   pieces-written {out} {o₃ = o₃} {p₃ = p₃} room w₁ w₂ w₃ =
       let t = form (recordOf u) in
-      let class = sectionOf Class (u .marks) (u .outside) in
-      let held = sectionOf Held (u .marks) (u .held) in
+      let class = sectionIn Class (u .marks) (u .outside) in
+      let held = sectionIn Held (u .marks) (u .held) in
       let e₁ = length-append (u .marks ∷ []) class in
       let e₂ = length-append ((u .marks ∷ []) ++ class) held in
       let whole = ap length pieces-form in

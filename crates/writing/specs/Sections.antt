@@ -5,7 +5,8 @@ use mathlib.Core.List.{List, [], _∷_, _++_}
 use lib.Dec.{eqb}
 use Rattle.tables.specs.Tables.{own}
 use Rattle.sheet.specs.Sound.{sizeOf}
-use Rattle.stored.specs.Sections.{bytesBehind, unset}
+use Rattle.stored.specs.Sections.{bytesBehind}
+use Rattle.stored.specs.Parts.{unset}
 use Rattle.stored.specs.Form.{bytes, listed}
 use Rattle.stored.specs.declared.Section.{Section}
 
@@ -17,12 +18,12 @@ abbrev pub entryText : ℕ → ℕ → ℕ → ℕ → List ℕ
 entryText k unset c x = cond (isSet unset x) (c ∷ bytes k x) []
 
 -- those that stand in it, and how many they are
-abbrev pub listOf : ℕ → ℕ → ℕ → List ℕ → List ℕ
-listOf k unset m t = listed (λ c. isSet unset (own m t c)) (λ c. c ∷ bytes k (own m t c)) (2 ^ m)
+abbrev pub listIn : ℕ → ℕ → ℕ → List ℕ → List ℕ
+listIn k unset m t = listed (λ c. isSet unset (own m t c)) (λ c. c ∷ bytes k (own m t c)) (2 ^ m)
 
-abbrev pub countOf : ℕ → ℕ → List ℕ → ℕ
-countOf unset m t = sizeOf m (λ c. isSet unset (own m t c))
+abbrev pub countIn : ℕ → ℕ → List ℕ → ℕ
+countIn unset m t = sizeOf m (λ c. isSet unset (own m t c))
 
 -- the section
-abbrev pub sectionOf : Section → ℕ → List ℕ → List ℕ
-sectionOf s m t = bytes 2 (countOf (unset s) m t) ++ listOf (bytesBehind s) (unset s) m t
+abbrev pub sectionIn : Section → ℕ → List ℕ → List ℕ
+sectionIn s m t = bytes 2 (countIn (unset s) m t) ++ listIn (bytesBehind s) (unset s) m t

@@ -1,14 +1,14 @@
 // Writing a sheet's stored form into a lent area.
 ghost use mathlib.Core.Path.{_≡_};
-ghost use Prim.Native.Nat.{_+_, _≤_, _<_};
+ghost use Prim.Native.Nat.{_+_, _^_, _≤_, _<_};
 ghost use lib.ListN.{length};
 ghost use Rattle.ground.specs.Areas.{Wrote};
 ghost use Rattle.sheet.specs.Limits.{mostMarks, entries};
 ghost use Rattle.sheet.specs.Sound.{Ready};
-ghost use Rattle.stored.specs.Sections.{unset};
+ghost use Rattle.stored.specs.Parts.{unset};
 ghost use Rattle.stored.specs.Form.{bytes};
 ghost use Rattle.stored.specs.Answers.{Writes};
-ghost use Rattle.writing.specs.Sections.{entryText, listOf, countOf, sectionOf};
+ghost use Rattle.writing.specs.Sections.{entryText, listIn, countIn, sectionIn};
 use sheet::Sheet;
 use sheet::Value;
 use stored::Section;
@@ -44,8 +44,8 @@ fn put_entry(out: &mut [u8], at: usize, c: usize, x: u32, k: usize, unset: u32) 
 fn put_list(out: &mut [u8], at: usize, m: usize, t: &[u32], k: usize, unset: u32) -> usize
     requires { ⌜ m ≤ mostMarks ⌝ }
     requires { ⌜ entries ≤ length (now t) ⌝ }
-    requires { ⌜ at + length (listOf k unset m (now t)) ≤ length (now out) ⌝ }
-    ensures { λ r. ⌜ Wrote (now (out .entry)) at (listOf k unset m (now (t .entry))) r (now (out .exit)) ⌝ }
+    requires { ⌜ at + length (listIn k unset m (now t)) ≤ length (now out) ⌝ }
+    ensures { λ r. ⌜ Wrote (now (out .entry)) at (listIn k unset m (now (t .entry))) r (now (out .exit)) ⌝ }
 {
     let n = boxes::power2(m);
     let mut next = at;
@@ -60,7 +60,7 @@ fn put_list(out: &mut [u8], at: usize, m: usize, t: &[u32], k: usize, unset: u32
 fn size(m: usize, t: &[u32], unset: u32) -> u64
     requires { ⌜ m ≤ mostMarks ⌝ }
     requires { ⌜ entries ≤ length (now t) ⌝ }
-    ensures { λ r. ⌜ (r ≡ countOf unset m (now (t .entry))) × (r ≤ 32) ⌝ }
+    ensures { λ r. ⌜ (r ≡ countIn unset m (now (t .entry))) × (r ≤ 2 ^ mostMarks) ⌝ }
 {
     let n = boxes::power2(m);
     let mut size: u64 = 0;
@@ -77,9 +77,9 @@ fn size(m: usize, t: &[u32], unset: u32) -> u64
 fn put_section(out: &mut [u8], at: usize, m: usize, t: &[u32], section: Section, n: u64) -> usize
     requires { ⌜ m ≤ mostMarks ⌝ }
     requires { ⌜ entries ≤ length (now t) ⌝ }
-    requires { ⌜ n ≡ countOf (unset section) m (now t) ⌝ }
-    requires { ⌜ at + length (sectionOf section m (now t)) ≤ length (now out) ⌝ }
-    ensures { λ r. ⌜ Wrote (now (out .entry)) at (sectionOf section m (now (t .entry))) r (now (out .exit)) ⌝ }
+    requires { ⌜ n ≡ countIn (unset section) m (now t) ⌝ }
+    requires { ⌜ at + length (sectionIn section m (now t)) ≤ length (now out) ⌝ }
+    ensures { λ r. ⌜ Wrote (now (out .entry)) at (sectionIn section m (now (t .entry))) r (now (out .exit)) ⌝ }
 {
     let first = put_bytes(out, at, 2, n);
     put_list(out, first, m, t, section.bytes_behind(), section.unset())

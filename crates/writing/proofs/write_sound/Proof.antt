@@ -8,11 +8,11 @@ use borrow.Author.Needs.{needs}
 use Rattle.sheet.specs.Limits.{mostMarks, entries}
 use Rattle.sheet.specs.Sound.{recordOf}
 use Rattle.sheet.proofs.Tests.{marks-most}
-use Rattle.stored.specs.Sections.{unset}
+use Rattle.stored.specs.Parts.{unset}
 use Rattle.stored.specs.Form.{form}
 use Rattle.stored.specs.Answers.{short}
 use Rattle.stored.specs.declared.Section.the-variants.{Class, Held}
-use Rattle.writing.specs.Sections.{countOf, sectionOf}
+use Rattle.writing.specs.Sections.{countIn, sectionIn}
 use Rattle.writing.proofs.Laws.{pieces-form, length-told, pieces-written}
 use Rattle.writing.proofs.write_sound.Statement.{statement}
 use Rattle.writing.proofs.write_sound.Tie as tie
@@ -23,21 +23,21 @@ long c = search needs
 few : (c : tie.Start) → c .args .sheet .marks ≤ mostMarks
 few c = marks-most mostMarks (c .args .sheet .marks) (c .pre .marks)
 
-class-count : (c : tie.After-size) → c .size .result ≡ countOf (unset Class) (c .before .before .before .before .before .before .args .sheet .marks) (c .before .before .before .before .before .before .args .sheet .outside)
-class-count c = c .size .ensures .0 ∙ ap (λ (u : ℕ). countOf u (c .before .before .before .before .before .before .args .sheet .marks) (c .before .before .before .before .before .before .args .sheet .outside)) (c .before .unset .ensures)
+class-count : (c : tie.After-size) → c .size .result ≡ countIn (unset Class) (c .before .before .before .before .before .before .args .sheet .marks) (c .before .before .before .before .before .before .args .sheet .outside)
+class-count c = c .size .ensures .0 ∙ ap (λ (u : ℕ). countIn u (c .before .before .before .before .before .before .args .sheet .marks) (c .before .before .before .before .before .before .args .sheet .outside)) (c .before .unset .ensures)
 
-held-count : (c : tie.After-size2) → c .size2 .result ≡ countOf (unset Held) (c .before .before .before .before .before .before .before .before .before .args .sheet .marks) (c .before .before .before .before .before .before .before .before .before .args .sheet .held)
-held-count c = c .size2 .ensures .0 ∙ ap (λ (u : ℕ). countOf u (c .before .before .before .before .before .before .before .before .before .args .sheet .marks) (c .before .before .before .before .before .before .before .before .before .args .sheet .held)) (c .before .unset2 .ensures)
+held-count : (c : tie.After-size2) → c .size2 .result ≡ countIn (unset Held) (c .before .before .before .before .before .before .before .before .before .args .sheet .marks) (c .before .before .before .before .before .before .before .before .before .args .sheet .held)
+held-count c = c .size2 .ensures .0 ∙ ap (λ (u : ℕ). countIn u (c .before .before .before .before .before .before .before .before .before .args .sheet .marks) (c .before .before .before .before .before .before .before .before .before .args .sheet .held)) (c .before .unset2 .ensures)
 
 total : (c : tie.After-size2) → length (form (recordOf (c .before .before .before .before .before .before .before .before .before .args .sheet))) ≡ 5 + c .before .before .before .size .result + c .size2 .result * 5
 total c = omega (arith, length-told (c .before .before .before .before .before .before .before .before .before .args .sheet) (c .before .before .before .before .before .before .before .before .before .pre), class-count (c .before .before .before), held-count c)
 
 -- the three pieces have room
-room : (c : tie.Else1) → 1 + length (sectionOf Class (c .before .before .before .before .before .before .before .before .before .before .args .sheet .marks) (c .before .before .before .before .before .before .before .before .before .before .args .sheet .outside)) + length (sectionOf Held (c .before .before .before .before .before .before .before .before .before .before .args .sheet .marks) (c .before .before .before .before .before .before .before .before .before .before .args .sheet .held)) ≤ length (c .before .before .before .before .before .before .before .before .before .before .args .out .now)
+room : (c : tie.Else1) → 1 + length (sectionIn Class (c .before .before .before .before .before .before .before .before .before .before .args .sheet .marks) (c .before .before .before .before .before .before .before .before .before .before .args .sheet .outside)) + length (sectionIn Held (c .before .before .before .before .before .before .before .before .before .before .args .sheet .marks) (c .before .before .before .before .before .before .before .before .before .before .args .sheet .held)) ≤ length (c .before .before .before .before .before .before .before .before .before .before .args .out .now)
 room c =
     let u = c .before .before .before .before .before .before .before .before .before .before .args .sheet in
-    let class = sectionOf Class (u .marks) (u .outside) in
-    let held = sectionOf Held (u .marks) (u .held) in
+    let class = sectionIn Class (u .marks) (u .outside) in
+    let held = sectionIn Held (u .marks) (u .held) in
     omega (arith, total (c .before), ap length (pieces-form u (c .before .before .before .before .before .before .before .before .before .before .pre)), length-append ((u .marks ∷ []) ++ class) held, length-append (u .marks ∷ []) class)
 
 slice-aggregate-size : tie.Need-slice-aggregate-size

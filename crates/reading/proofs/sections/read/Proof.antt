@@ -1,7 +1,6 @@
 -- A count, and what it counts.
 use Prim.Native.Nat.{ℕ, _^_}
 use mathlib.Core.Path.{subst}
-use native.Mathlib.Omega.{arith}
 use borrow.Author.Tests.{not-true, not-false}
 use borrow.Author.Needs.{needs}
 use Rattle.reading.specs.Parts.{FieldRead}

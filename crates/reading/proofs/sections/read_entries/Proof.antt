@@ -3,12 +3,12 @@ use Prim.Native.Nat.{ℕ, _-_, _^_, _≤_, _<_}
 use mathlib.Core.Path.{_≡_, refl, sym, ap, _∙_, subst}
 use native.Mathlib.Nat.{one-le-pow}
 use native.Mathlib.Omega.{arith}
-use lib.ListN.{length}
 use borrow.Author.Needs.{needs}
 use borrow.Author.Tests.{not-true, not-false}
 use Rattle.sheet.proofs.Opening.{combinations-fit, same-entry}
 use Rattle.sheet.specs.Limits.{mostHeld}
-use Rattle.stored.specs.Sections.{bytesBehind, unset}
+use Rattle.stored.specs.Sections.{bytesBehind}
+use Rattle.stored.specs.Parts.{unset}
 use Rattle.stored.specs.declared.Section.{Section}
 use Rattle.reading.specs.Parts.{FieldRead, least, good}
 use Rattle.reading.proofs.Offsets.{field-inside, field-number}
