@@ -15,9 +15,8 @@ mod moves;
 mod numbers;
 mod soundness;
 
-pub use numbers::marks_ok;
-
 use boxes;
+pub use numbers::marks_ok;
 use tables;
 use tables::Shift;
 

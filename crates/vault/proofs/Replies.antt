@@ -76,6 +76,7 @@ holds-long {t} {a} x = subst (λ (y : Read). Long entries (y .sheet)) (sym (x .i
     afresh-long : (r : Record) (k : Table) → length (kept k (sheetOf entries r)) ≡ 243
     afresh-long r outside-counts = tab-length 243 _
     afresh-long r held-seconds = tab-length 243 _
+
     long : (o : Outcome) → Long entries (readOf entries o .sheet)
     long (good r) = afresh-long r
     long (refused n p) = afresh-long (opened 1)

@@ -11,7 +11,6 @@ use Rattle.sheet.proofs.Sheet.class_ready.Tie as tie
 long : (c : tie.Start) → length (c .args .self .outside) ≡ 243
 long c = search needs
 
-
 marks-ok-requires : tie.Need-marks-ok-requires
 marks-ok-requires c κs = search needs
 

@@ -19,7 +19,6 @@ long c = (search needs, search needs)
 passed : (c : tie.Else1) → let a = c .before .before .before .before .before .before .args in numberOn mostMarks (a .self) (a .call) ≡ 0
 passed c = sym (c .before .of-call .ensures) ∙ c .if1 .left
 
-
 slice-aggregate-of-call : tie.Need-slice-aggregate-of-call
 slice-aggregate-of-call c = search needs
 

@@ -19,7 +19,6 @@ over c t =
     let w = c .pre in
     (record { marks = omega (arith, marks-most 5 _ (w .marks)); low = w .low; long = omega (arith, boxes-fit _ (w .marks), long c t) }, w .bear t)
 
-
 slice-aggregate-move-at : tie.Need-slice-aggregate-move-at
 slice-aggregate-move-at c = search needs
 

@@ -12,7 +12,6 @@ use Rattle.sheet.proofs.Sheet.ready.Tie as tie
 long : (c : tie.Start) → length (c .args .self .held) ≡ 243
 long c = search needs
 
-
 class-ready-requires : tie.Need-class-ready-requires
 class-ready-requires c κs = search needs
 

@@ -18,7 +18,6 @@ counted c =
     let all = ap (λ (n : ℕ). entry (s .outside) (n - 1)) (c .before .before .power3 .ensures .0) in
     omega (arith, all, c .power2 .ensures .0, size-counted (s .marks) (s .outside) (c .before .before .before .pre .class))
 
-
 power3-requires : tie.Need-power3-requires
 power3-requires c κs = omega (arith, marks-most 5 _ (c .pre .marks))
 
