@@ -33,7 +33,7 @@ use Rattle.vault.specs.Sequences.{Entry, changing, Serves, rests, accept
 
 reads-form : (r : Record) → Good r → {a : Read} → Reads mostMarks entries (form r) a → a ≡ readOf entries (good r)
 reads-form r g {a} x =
-    form-same-sheet 5 243 five (omega arith) r (g .marks) (g .times) (subst (λ (t : List ℕ). Reads mostMarks entries t a) (sym (form-kept r g)) x)
+    form-same-sheet 5 entries five (omega arith) r (g .marks) (g .times) (subst (λ (t : List ℕ). Reads mostMarks entries t a) (sym (form-kept r g)) x)
 
 -- one entry: its number; and where that is 0, the form of the record after the call, at the front of what was lent
 pub record EntryKept (r : Record) (k : Call) (out : List ℕ) (reply : Reply) (later : List ℕ) : Type 0 where
@@ -110,5 +110,5 @@ pub open-begins : (m : ℕ) {out later : List ℕ} {reply : Reply} → Put (open
     → (marksOk mostMarks m ≡ true) × (take (reply .value) later ≡ form (opened m))
 open-begins m {out} {later} {reply} p z =
     if (marksOk mostMarks m)
-    (λ e. (e, written-form (opened m) (good-opened m e) (subst (λ (a : Answer). Put a out reply later) (sym (open-done 5 243 m e)) p) z))
-    (λ e. absurd (not-written (sheetOf entries (opened 1)) (subst (λ (a : Answer). Put a out reply later) (sym (open-refused 5 243 m e)) p) z))
+    (λ e. (e, written-form (opened m) (good-opened m e) (subst (λ (a : Answer). Put a out reply later) (sym (open-done 5 entries m e)) p) z))
+    (λ e. absurd (not-written (sheetOf entries (opened 1)) (subst (λ (a : Answer). Put a out reply later) (sym (open-refused 5 entries m e)) p) z))

@@ -9,6 +9,7 @@ use lib.Dec.{eqb, lit<}
 use lib.Bits.{bitOr, or-shifted-r}
 use borrow.Author.Needs.{needs}
 use borrow.Author.Tests.{eq-eqb, ne-eqb}
+use Rattle.sheet.specs.Limits.{entries}
 use Rattle.listing.proofs.Filled.{inside, Filled, filled-none, filled-in, filled-out, filled-all}
 use Rattle.tables.specs.Tables.{entry, own}
 use Rattle.listing.proofs.class_bits.Statement.{statement}
@@ -23,7 +24,7 @@ abbrev μ-loop : tie.MeasureT-loop
 few : (c : tie.In-loop Inv-loop μ-loop) → c .before .loop .c < 32
 few c = omega (arith, c .before .loop .inv .1, pow-le-pow-right {n = 2} (omega arith) {i = c .before .before .before .before .args .m} {j = 5} (omega arith))
 
-small : (c : tie.After-single Inv-loop μ-loop) → c .single .result < 243
+small : (c : tie.After-single Inv-loop μ-loop) → c .single .result < entries
 small c = omega (arith, c .single .ensures .1, pow-le-pow-right {n = 3} (omega arith) {i = c .before .before .before .before .before .args .m} {j = 5} (omega arith))
 
 own-is : (c : tie.After-shared-slice-known2 Inv-loop μ-loop)

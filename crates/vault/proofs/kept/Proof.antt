@@ -3,10 +3,11 @@ use mathlib.Core.Path.{_≡_, sym, ap}
 use native.Mathlib.Omega.{arith}
 use lib.ListN.{List·getD-eq-default, length}
 use borrow.Author.Needs.{needs}
+use Rattle.sheet.specs.Limits.{entries}
 use Rattle.vault.proofs.kept.Statement.{statement}
 use Rattle.vault.proofs.kept.Tie as tie
 
-long : (c : tie.Start) → length (c .args .t1) ≡ 243
+long : (c : tie.Start) → length (c .args .t1) ≡ entries
 long c = search needs
 
 returns-2 : tie.Need-returns-2

@@ -8,7 +8,7 @@ use borrow.Author.Needs.{needs}
 use Rattle.tables.specs.declared.Shift.{Shift}
 use Rattle.tables.specs.Tables.{fitsMoved, touched}
 use Rattle.tables.proofs.Touched.{touched-ext}
-use Rattle.sheet.specs.Limits.{marksOk, amountOk, mostMarks}
+use Rattle.sheet.specs.Limits.{marksOk, amountOk, mostMarks, entries}
 use Rattle.sheet.specs.Calls.{fitsAmount}
 use Rattle.sheet.proofs.Tests.{marks-most, boxes-fit, amount-most, amount-7, amount-2, amount-4, amount-last, amount-0, amount-bounds, top-small}
 use Rattle.sheet.proofs.numbers.amount_number.Statement.{statement}
@@ -37,7 +37,7 @@ returns : tie.Need-returns
 returns c = sym (amount-7 _ _ _ _ _ _ (sym (c .before .marks-ok .ensures) ∙ not-true _ (c .if1 .taken)))
 
 power2-requires : tie.Need-power2-requires
-power2-requires c κs = omega (arith, marks-most 5 _ (marks c))
+power2-requires c κs = omega (arith, marks-most mostMarks _ (marks c))
 
 returns-2 : tie.Need-returns-2
 returns-2 c = sym (amount-2 _ _ _ _ _ _ (marks (c .before .before)) (omega (arith, c .before .power2 .ensures .0)))
@@ -52,7 +52,7 @@ fits-at-requires : tie.Need-fits-at-requires
 fits-at-requires c κs =
     let ok = marks (c .before .before .before .before .before .before) in (
       record {
-        marks = omega (arith, marks-most 5 _ ok);
+        marks = omega (arith, marks-most mostMarks _ ok);
         low = low (c .before .before .before .before);
         long = omega (arith, boxes-fit _ ok, c .before .before .before .before .before .before .before .before .before .pre);
       },

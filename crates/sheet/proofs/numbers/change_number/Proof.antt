@@ -36,13 +36,13 @@ returns : tie.Need-returns
 returns c = sym (change-7 _ _ _ _ _ (sym (c .before .marks-ok .ensures) ∙ not-true _ (c .if1 .taken)))
 
 power2-requires : tie.Need-power2-requires
-power2-requires c κs = omega (arith, marks-most 5 _ (marks c))
+power2-requires c κs = omega (arith, marks-most mostMarks _ (marks c))
 
 returns-2 : tie.Need-returns-2
 returns-2 c = sym (change-2 _ _ _ _ _ (marks (c .before .before)) (omega (arith, c .before .power2 .ensures .0)))
 
 single-requires : tie.Need-single-requires
-single-requires c κs = omega (arith, marks-most 5 _ (marks (c .before .before)))
+single-requires c κs = omega (arith, marks-most mostMarks _ (marks (c .before .before)))
 
 mul-own : tie.Need-mul-own
 mul-own c = omega (arith, boxes-fit _ (marks (c .before .before .before)), c .single .ensures .1)
@@ -60,7 +60,7 @@ fits-at-requires : tie.Need-fits-at-requires
 fits-at-requires c κs =
     let ok = marks (c .before .before .before .before .before .before .before .before) in (
       record {
-        marks = omega (arith, marks-most 5 _ ok);
+        marks = omega (arith, marks-most mostMarks _ ok);
         low = low (c .before .before .before .before .before .before);
         long = omega (arith, boxes-fit _ ok, c .before .before .before .before .before .before .before .before .before .before .before .pre);
       },

@@ -7,6 +7,7 @@ use borrow.Author.Needs.{needs}
 use borrow.Author.Count.{below-more}
 use Rattle.tables.specs.Tables.{entry, own}
 use Rattle.ground.proofs.Cases.{decided-yes, decided-no}
+use Rattle.sheet.specs.Limits.{entries}
 use Rattle.sheet.proofs.soundness.ones.Statement.{statement}
 use Rattle.sheet.proofs.soundness.ones.Tie as tie
 
@@ -16,7 +17,7 @@ Inv-loop m t n c₀ c = (c ≤ n) × (n ≡ 2 ^ m) × ((k : ℕ) → k < c → o
 abbrev μ-loop : tie.MeasureT-loop
 μ-loop m t n c₀ c = n - c
 
-small : (c : tie.After-single Inv-loop μ-loop) → c .single .result < 243
+small : (c : tie.After-single Inv-loop μ-loop) → c .single .result < entries
 small c = omega (arith, c .single .ensures .1, pow-le-pow-right {n = 3} (omega arith) {i = c .before .before .before .before .before .args .m} {j = 5} (omega arith))
 
 here : (c : tie.After-shared-slice-known2 Inv-loop μ-loop)
