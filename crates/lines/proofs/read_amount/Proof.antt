@@ -6,7 +6,7 @@ use lib.Seq.{length-take-le}
 use lib.ListN.{take, drop, length}
 use borrow.Author.Needs.{needs}
 use Rattle.lines.proofs.Orders.{amount-short, amount-unspaced, amount-unnamed, amount-untimed, amount-read}
-use Rattle.lines.specs.Words.{Patterned}
+use Rattle.lines.specs.Parts.{Patterned}
 use Rattle.lines.specs.declared.Pattern.{Pattern}
 use Rattle.times.specs.Places.{Reads}
 use Rattle.times.specs.Texts.{Readable}
