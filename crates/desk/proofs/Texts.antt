@@ -1,4 +1,4 @@
--- What is printed, laid piece by piece, and how long it is.
+-- The texts of the result: how long they are, and the lines one more at a time.
 use Prim.Native.Nat.{ℕ, zero, suc, _+_, _*_, _^_, _≤_, _<_}
 use mathlib.Core.Path.{_≡_, refl, sym, ap, _∙_}
 use mathlib.Core.List.{List, [], _∷_, _++_, append-assoc, append-nil}
@@ -9,10 +9,8 @@ use lib.Seq.{take-suc}
 use Rattle.lists.specs.Lists.{Boxes}
 use Rattle.ground.specs.Texts.{ascii}
 use Rattle.print.specs.Texts.{decimal, clock, pattern}
-use Rattle.ground.specs.Areas.{Wrote}
-use Rattle.ground.proofs.Areas.{wrote-then}
 use Rattle.print.proofs.Digits.{number-room, time-room, pattern-length}
-use Rattle.desk.specs.Prints.{refusal, heads, boxLine, boxLines, lastLine}
+use Rattle.desk.specs.Prints.{heads, boxLine, boxLines, lastLine}
 
 -- lengths
 

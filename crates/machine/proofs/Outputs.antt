@@ -6,7 +6,7 @@ use Rattle.ground.specs.Areas.{Wrote}
 use Rattle.ground.proofs.Areas.{wrote-settled}
 use Rattle.machine.specs.Rows.{Row, rows}
 use Rattle.machine.specs.Machine.{Machine, Onward, stopped, line, Output}
-use Rattle.machine.specs.Pieces.{Place, in-line, Takes, none, byte, newline, Finishes, ended, cut-off, FedBy, FinishedBy}
+use Rattle.machine.specs.Pieces.{Place, in-line, stateIn, Takes, none, byte, newline, Finishes, ended, cut-off, FedBy, FinishedBy}
 
 -- no line in a state leads to two states or prints two texts, and no end of the input prints two
 pub record Single (M : Machine) : Type 0 where
@@ -56,9 +56,14 @@ module _ {M : Machine} (one : Single M) where
       wrote-settled (f .laid) (subst (λ (l : List ℕ). Wrote out 0 l x o₂) (sym (finishes-one (f .finishes) (g .finishes))) (g .laid))
 
   module _ (all : Total M) where
-    -- a step leads to a state that it can be in
-    pub can-step : {k : ℕ} {s t : M .State} {row : Row} {now : List ℕ} → M .step k s row t now → all .Can s → all .Can t
+    -- it stays in states that it can be in
+    can-step : {k : ℕ} {s t : M .State} {row : Row} {now : List ℕ} → M .step k s row t now → all .Can s → all .Can t
     can-step {k} {s} {row = row} e c = let w = all .step k s row c in subst (all .Can) (one .step (w .2) e .0) (w .3)
+
+    pub can-takes : {p q : Place M} {a said : List ℕ} → Takes M p a q said → all .Can (stateIn p) → all .Can (stateIn q)
+    can-takes none c = c
+    can-takes (byte n p) c = can-takes p c
+    can-takes (newline e p) c = can-takes p (can-step e c)
 
     onward-some : (k : ℕ) (s : M .State) (l : List Row) → all .Can s → (text : List ℕ) × Onward M k s l text
     onward-some k s [] c = let t = all .stop s c in (t .0, stopped (t .1))

@@ -12,13 +12,13 @@ use borrow.Author.Tests.{eqb-true, eqb-false, ne-eqb}
 use Rattle.ground.proofs.Cases.{if, clash}
 use Rattle.ground.specs.Areas.{Wrote}
 use Rattle.ground.proofs.Areas.{wrote-none}
-use Rattle.machine.specs.Rows.{Row, judged, rowsFrom, rows}
-use Rattle.machine.specs.Machine.{Machine, Onward, stopped, line, Output}
-use Rattle.machine.specs.Pieces.{Place, in-line, start, Takes, none, byte, newline, Finishes, ended, cut-off, InPieces, done, piece, upTo, FedBy}
-use Rattle.machine.specs.AtHand.{typed, cutOf}
+use Rattle.machine.specs.Rows.{Row, spoiled, judged, rowsFrom, rows}
+use Rattle.machine.specs.Machine.{Machine, refusal, Onward, stopped, line, Output}
+use Rattle.machine.specs.Pieces.{Place, in-line, start, numberIn, Takes, none, byte, newline, Finishes, ended, cut-off, InPieces, done, piece, upTo, FedBy}
+use Rattle.machine.specs.AtHand.{typed, cutOf, cutOff}
 use Rattle.machine.specs.declared.line.Line.{Line}
 use Rattle.machine.specs.declared.line.Cut.{Cut}
-use Rattle.machine.proofs.AtHand.{typed-more}
+use Rattle.machine.proofs.AtHand.{typed-more, none-judged}
 
 rows-byte : (begun : List ℕ) (b : ℕ) (rest : List ℕ) → (b ≡ 10 → ⊥) → rowsFrom begun (b ∷ rest) ≡ rowsFrom (begun ++ b ∷ []) rest
 unfolding rowsFrom
@@ -134,11 +134,14 @@ module _ {M : Machine} {k : ℕ} {s : M .State} {begun a : List ℕ} {c : Cut} (
       → FedBy M (in-line k s begun) a out (c .used) w (in-line (k + 1) t []) later
   fed-line {now = now} e t w = record { used = g .used; said = now; takes = g .over e t; laid = w }
 
--- for a caller that goes on behind the call
+-- the call at the end of the input, where a last line without newline is refused and changes nothing of what is printed then
+pub finishes-cut : {M : Machine} {k : ℕ} {s : M .State} (t : M .State) (begun text : List ℕ) → M .step k s spoiled t (refusal k 10) → M .stop s text → M .stop t text
+    → Finishes M (in-line k s begun) (cutOff k (judged begun) ++ text)
+unfolding judged
+finishes-cut t [] text e a b = ended a
+finishes-cut t (x ∷ begun) text e a b = rw (none-judged (x ∷ begun), ne-eqb (suc (length begun)) 0 (λ z. omega arith)) (cut-off e b)
 
--- the number of the line at hand
-abbrev pub numberIn : {M : Machine} → Place M → ℕ
-numberIn (in-line k s begun) = k
+-- for a caller that goes on behind the call
 
 pub takes-number : {M : Machine} {p q : Place M} {a said : List ℕ} → Takes M p a q said → numberIn q ≤ numberIn p + length a
 takes-number none = omega arith

@@ -17,6 +17,12 @@ pub data Place (M : Machine) : Type 0 where
 abbrev pub start : (M : Machine) → Place M
 start M = in-line 1 (M .start) []
 
+abbrev pub numberIn : {M : Machine} → Place M → ℕ
+numberIn (in-line k s begun) = k
+
+abbrev pub stateIn : {M : Machine} → Place M → M .State
+stateIn (in-line k s begun) = s
+
 -- bytes taken one after another: the place behind them, and what has been printed by then
 pub data Takes (M : Machine) : Place M → List ℕ → Place M → List ℕ → Type 0 where
   none : {p : Place M} → Takes M p [] p []

@@ -21,8 +21,8 @@ slice-aggregate-print-list-2 c = search needs
 print-list-requires : tie.Need-print-list-requires
 print-list-requires c κs = search needs
 
-list-area-requires : tie.Need-list-area-requires
-list-area-requires c κs = search needs
+area-requires : tie.Need-area-requires
+area-requires c κs = search needs
 
 slice-aggregate-with-class : tie.Need-slice-aggregate-with-class
 slice-aggregate-with-class c = search needs
@@ -78,7 +78,7 @@ document-spec =
     slice-aggregate-print-list
     slice-aggregate-print-list-2
     print-list-requires
-    list-area-requires
+    area-requires
     slice-aggregate-with-class
     with-class-requires
     slice-aggregate-list

@@ -6,8 +6,8 @@ use borrow.Author.Needs.{needs}
 use Rattle.known.proofs.known_sheet.Statement.{statement}
 use Rattle.known.proofs.known_sheet.Tie as tie
 
-list-area-requires : tie.Need-list-area-requires
-list-area-requires c κs = search needs
+area-requires : tie.Need-area-requires
+area-requires c κs = search needs
 
 with-class-requires : tie.Need-with-class-requires
 with-class-requires c κs = search needs
@@ -55,7 +55,7 @@ pub known-sheet-spec : {M : Type 1} → statement M
 known-sheet-spec =
     tie.close
     (tie.spec
-    list-area-requires
+    area-requires
     with-class-requires
     slice-aggregate-list
     list-requires

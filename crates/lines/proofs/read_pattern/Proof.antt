@@ -53,9 +53,12 @@ loop-less c = omega arith
 loop-again : tie.Need-loop-again Inv-loop μ-loop
 loop-again c =
     let l = c .before .before .before .before .before .before .loop in
-    let a = c .before .before .before .before .before .before .before .before .before .args in
-    (l .inv .0, omega arith, subst (Tail (a .part .now) (a .m) (l .i + 1)) (sym (c .with-mark .ensures .0))
-    (tail-more (a .part .now) (a .m) (l .i) (l .n) _ (l .inv .2) (omega arith) (l .inv .0) (omega (arith, c .before .byte .ensures .0)) (omega (arith, c .before .byte .ensures .0))))
+    let a = c .before .before .before .before .before .before .before .before .before .args in (
+      l .inv .0,
+      omega arith,
+      subst (Tail (a .part .now) (a .m) (l .i + 1)) (sym (c .with-mark .ensures .0))
+          (tail-more (a .part .now) (a .m) (l .i) (l .n) _ (l .inv .2) (omega arith) (l .inv .0) (omega (arith, c .before .byte .ensures .0)) (omega (arith, c .before .byte .ensures .0))),
+    )
 
 returns-4 : tie.Need-returns-4 Inv-loop μ-loop
 returns-4 c =

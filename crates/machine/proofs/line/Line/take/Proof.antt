@@ -40,7 +40,7 @@ loop-again c =
       omega arith,
       subst LineFits (sym (c .push .ensures)) (fits-pushed (l .line) _ (l .inv .1)),
       l .inv .2 ∙ cut-byte (l .line) piece (l .i) (omega arith) (c .before .if1 .left)
-      ∙ ap (λ (x : Line). behind (l .i + 1) (cutOf x (drop (l .i + 1) piece))) (sym (c .push .ensures)),
+          ∙ ap (λ (x : Line). behind (l .i + 1) (cutOf x (drop (l .i + 1) piece))) (sym (c .push .ensures)),
     )
 
 returns-2 : tie.Need-returns-2 Inv-loop μ-loop
