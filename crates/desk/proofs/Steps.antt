@@ -25,7 +25,7 @@ use Rattle.lines.specs.declared.First.the-variants.{Marks, NotMarks}
 use Rattle.lines.specs.Words.{RowAsks, RowOpens}
 use Rattle.desk.specs.Prints.{firstNumber, firstRecord, State, first, going, over, opens, shut, made, unread, ended, Step}
 use Rattle.desk.specs.States.{recordIn, stageIn, sessionOf}
-use Rattle.desk.specs.Parts.{OfRecord, In, FirstAnswered, SteppedTo, Printed}
+use Rattle.desk.specs.Parts.{OfRecord, In, ledTo, FirstAnswered, SteppedTo, Printed}
 use Rattle.desk.specs.declared.session.Stage.{Stage}
 use Rattle.desk.specs.declared.session.Stage.the-variants.{Opening, Going, Over}
 use Rattle.desk.specs.declared.session.Session.{Session}
@@ -54,7 +54,7 @@ module _ {row : Row} {a : Answer} (f : FirstAnswered row a) where
 
   module _ {k w : ℕ} {out later : List ℕ} where
     pub first-opened : Wrote out 0 (spoken k (a .number)) w later → a .number ≡ 0
-        → SteppedTo k first row out (record { session = record { stage = Going; sheet = a .sheet }; wrote = w }) later
+        → SteppedTo k first row out (ledTo Going (a .sheet) w) later
     first-opened p z = record {
       state = going (firstRecord (f .says));
       said = [];
@@ -64,7 +64,7 @@ module _ {row : Row} {a : Answer} (f : FirstAnswered row a) where
     }
 
     pub first-shut : Wrote out 0 (spoken k (a .number)) w later → (a .number ≡ 0 → ⊥)
-        → SteppedTo k first row out (record { session = record { stage = Over; sheet = a .sheet }; wrote = w }) later
+        → SteppedTo k first row out (ledTo Over (a .sheet) w) later
     first-shut p n = record {
       state = over (firstRecord (f .says));
       said = refusal k (firstNumber (f .says));
@@ -85,7 +85,7 @@ module _ {sheet : Sheet} {r : Record} (of : OfRecord sheet r) where
 
     module _ {k w : ℕ} {out later : List ℕ} where
       pub later-made : {c : Call} {a : Answer} → o ≡ Make c → a ≡ didOf mostMarks sheet c → Wrote out 0 (spoken k (a .number)) w later
-          → SteppedTo k (going r) row out (record { session = record { stage = Going; sheet = a .sheet }; wrote = w }) later
+          → SteppedTo k (going r) row out (ledTo Going (a .sheet) w) later
       later-made {c} {a} q e p =
           let is : a ≡ record { number = numberOf r c; sheet = sheetOf entries (after r c) } =
           e ∙ ap (λ (s : Sheet). didOf mostMarks s c) (of .is) ∙ did-kept r (of .good) c in
@@ -98,11 +98,11 @@ module _ {sheet : Sheet} {r : Record} (of : OfRecord sheet r) where
           }
 
       pub later-unread : o ≡ Unreadable → Wrote out 0 (spoken k 10) w later
-          → SteppedTo k (going r) row out (record { session = record { stage = Going; sheet = sheet }; wrote = w }) later
+          → SteppedTo k (going r) row out (ledTo Going sheet w) later
       later-unread q p = record { state = going r; said = refusal k 10; step = unread (asks q); session = session-kept Going; laid = p }
 
       pub later-ended : o ≡ End → Printed r out 0 w later
-          → SteppedTo k (going r) row out (record { session = record { stage = Over; sheet = sheet }; wrote = w }) later
+          → SteppedTo k (going r) row out (ledTo Over sheet w) later
       later-ended q p = record { state = over r; said = p .text; step = ended (asks q) (p .result); session = session-kept Over; laid = p .wrote }
 
 -- by the stage

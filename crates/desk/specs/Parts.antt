@@ -14,6 +14,7 @@ use Rattle.lines.specs.declared.First.{First}
 use Rattle.lines.specs.Words.{RowOpens}
 use Rattle.desk.specs.Prints.{Result, firstNumber, firstRecord, State, Step}
 use Rattle.desk.specs.States.{recordIn, sessionOf}
+use Rattle.desk.specs.declared.session.Stage.{Stage}
 use Rattle.desk.specs.declared.session.Session.{Session}
 use Rattle.desk.specs.declared.session.Stepped.{Stepped}
 
@@ -29,6 +30,9 @@ SheetOfRecord sheet = (r : Record) × OfRecord sheet r
 pub record In (c : Session) (s : State) : Type 0 where
   pub is : c ≡ sessionOf s
   pub good : Good (recordIn s)
+
+abbrev pub ledTo : Stage → Sheet → ℕ → Stepped
+ledTo stage sheet wrote = record { session = record { stage = stage; sheet = sheet }; wrote = wrote }
 
 -- what line 1 is answered, and the sheet that it opens
 pub record FirstAnswered (row : Row) (a : Answer) : Type 0 where

@@ -7,7 +7,7 @@ ghost use Rattle.machine.specs.AtHand.{rowOf, LineFits};
 ghost use Rattle.machine.specs.Pieces.{start};
 ghost use Rattle.desk.specs.Prints.{State, first, going, holdings};
 ghost use Rattle.desk.specs.States.{room, At, DeskReady, isOver, Feeds, Finishes};
-ghost use Rattle.desk.specs.Parts.{OfRecord, SheetOfRecord, In, FirstAnswered, SteppedTo};
+ghost use Rattle.desk.specs.Parts.{OfRecord, SheetOfRecord, In, ledTo, FirstAnswered, SteppedTo};
 use crate::page;
 use lines;
 use lines::First;
@@ -98,6 +98,14 @@ pub fn first_answer(line: Line) -> Answer
     Sheet::open(m)
 }
 
+fn led_to(stage: Stage, sheet: Sheet, wrote: usize) -> Stepped
+    ensures { λ r. ⌜ r ≡ ledTo stage sheet wrote ⌝ }
+{
+    let session = Session { stage, sheet };
+    Stepped { session, wrote }
+}
+
+// Line 1 has ended.
 fn first_line(line: Line, out: &mut [u8]) -> Stepped
     requires { ⌜ LineFits line ⌝ }
     requires { ⌜ room ≤ length (now out) ⌝ }
@@ -107,53 +115,34 @@ fn first_line(line: Line, out: &mut [u8]) -> Stepped
     let sheet = a.sheet;
     let wrote = machine::spoken(out, line.number, a.number);
     if a.number == 0 {
-        let session = Session {
-            stage: Stage::Going,
-            sheet,
-        };
-        return Stepped { session, wrote };
+        return led_to(Stage::Going, sheet, wrote);
     }
-    let session = Session {
-        stage: Stage::Over,
-        sheet,
-    };
-    Stepped { session, wrote }
+    led_to(Stage::Over, sheet, wrote)
 }
 
-fn later_line(sheet: Sheet, line: Line, out: &mut [u8]) -> Stepped
-    requires { ⌜ SheetOfRecord sheet ⌝ }
+// A later line has ended.
+fn later_line(old: Sheet, line: Line, out: &mut [u8]) -> Stepped
+    requires { ⌜ SheetOfRecord old ⌝ }
     requires { ⌜ LineFits line ⌝ }
     requires { ⌜ room ≤ length (now out) ⌝ }
-    ensures { λ r. ⌜ ((q : Record) → OfRecord sheet q → SteppedTo (line .number) (going q) (rowOf line) (now (out .entry)) r (now (out .exit))) ⌝ }
+    ensures { λ r. ⌜ ((q : Record) → OfRecord old q → SteppedTo (line .number) (going q) (rowOf line) (now (out .entry)) r (now (out .exit))) ⌝ }
 {
-    let m = sheet.marks;
+    let m = old.marks;
     let order = lines::order_of(line, m);
     match order {
         Order::Make(call) => {
-            let a = sheet.did(call);
-            let after = a.sheet;
+            let a = old.did(call);
+            let new = a.sheet;
             let wrote = machine::spoken(out, line.number, a.number);
-            let session = Session {
-                stage: Stage::Going,
-                sheet: after,
-            };
-            Stepped { session, wrote }
+            led_to(Stage::Going, new, wrote)
         }
         Order::Unreadable => {
             let wrote = machine::spoken(out, line.number, 10);
-            let session = Session {
-                stage: Stage::Going,
-                sheet,
-            };
-            Stepped { session, wrote }
+            led_to(Stage::Going, old, wrote)
         }
         Order::End => {
-            let wrote = page::result(out, 0, sheet);
-            let session = Session {
-                stage: Stage::Over,
-                sheet,
-            };
-            Stepped { session, wrote }
+            let wrote = page::result(out, 0, old);
+            led_to(Stage::Over, old, wrote)
         }
     }
 }

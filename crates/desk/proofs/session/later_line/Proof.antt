@@ -18,35 +18,44 @@ did-requires c κs = search needs
 spoken-requires : tie.Need-spoken-requires
 spoken-requires c κs = search needs
 
+led-to-requires : tie.Need-led-to-requires
+led-to-requires c κs = search needs
+
 enum-told : tie.Need-enum-told
 enum-told c = search needs
 
 spoken-requires-2 : tie.Need-spoken-requires-2
 spoken-requires-2 c κs = search needs
 
+led-to-requires-2 : tie.Need-led-to-requires-2
+led-to-requires-2 c κs = search needs
+
 enum-told-2 : tie.Need-enum-told-2
 enum-told-2 c = search needs
 
 result-requires : tie.Need-result-requires
-result-requires c κs = let s = c .before .before .before .before .before in (s .pre .0, omega (arith, s .pre .1 .1))
+result-requires c κs = search needs
+
+led-to-requires-3 : tie.Need-led-to-requires-3
+led-to-requires-3 c κs = search needs
 
 same-length : tie.Need-same-length
 same-length c = search needs
 
 returns : tie.Need-returns
-returns c = λ q of. later-made of (c .before .before .before .before .before .before .before .before .before .order-of .ensures) (c .before .before .before .before .before .before .before .order .given .1) (c .before .before .before .before .before .did .ensures) (c .before .before .spoken .ensures)
+returns c = λ q of. rw (c .led-to .ensures) (later-made of (c .before .before .before .before .before .before .before .before .before .before .order-of .ensures) (c .before .before .before .before .before .before .before .before .order .given .1) (c .before .before .before .before .before .before .did .ensures) (c .before .before .before .spoken .ensures))
 
 same-length-2 : tie.Need-same-length-2
 same-length-2 c = search needs
 
 returns-2 : tie.Need-returns-2
-returns-2 c = λ q of. later-unread of (c .before .before .before .before .before .before .order-of .ensures) (c .before .before .before .before .enum-told .given .1) (c .before .before .spoken2 .ensures)
+returns-2 c = λ q of. rw (c .led-to2 .ensures) (later-unread of (c .before .before .before .before .before .before .before .order-of .ensures) (c .before .before .before .before .before .enum-told .given .1) (c .before .before .before .spoken2 .ensures))
 
 same-length-3 : tie.Need-same-length-3
 same-length-3 c = search needs
 
 returns-3 : tie.Need-returns-3
-returns-3 c = λ q of. later-ended of (c .before .before .before .before .before .before .order-of .ensures) (c .before .before .before .before .enum-told2 .given .1) (c .before .before .result .ensures q of)
+returns-3 c = λ q of. rw (c .led-to3 .ensures) (later-ended of (c .before .before .before .before .before .before .before .order-of .ensures) (c .before .before .before .before .before .enum-told2 .given .1) (c .before .before .before .result .ensures q of))
 
 pub later-line-spec : {M : Type 1} → statement M
 later-line-spec =
@@ -56,10 +65,13 @@ later-line-spec =
     enum-known-order
     did-requires
     spoken-requires
+    led-to-requires
     enum-told
     spoken-requires-2
+    led-to-requires-2
     enum-told-2
     result-requires
+    led-to-requires-3
     same-length
     returns
     same-length-2
