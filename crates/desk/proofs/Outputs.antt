@@ -13,13 +13,13 @@ use Rattle.histories.specs.Histories.{Good, numberOf, after}
 use Rattle.histories.proofs.Goods.{good-after, good-opened}
 use Rattle.machine.specs.Rows.{Row}
 use Rattle.machine.specs.Machine.{refusal, spoken}
-use Rattle.machine.specs.Pieces.{Place, stateIn, Takes}
-use Rattle.machine.proofs.Outputs.{Single, Total, can-takes, one-output}
+use Rattle.machine.specs.Pieces.{Position, stateIn, Takes}
+use Rattle.machine.proofs.Outputs.{OneAnswer, SomeAnswer, can-takes, one-output}
 use Rattle.lines.specs.declared.Order.{Order}
 use Rattle.lines.specs.declared.Order.the-variants.{Make, End, Unreadable}
 use Rattle.lines.specs.declared.First.{First}
 use Rattle.lines.specs.declared.First.the-variants.{Marks, NotMarks}
-use Rattle.lines.specs.Words.{RowAsks, RowOpens}
+use Rattle.lines.specs.Words.{RowAsks}
 use Rattle.lines.proofs.Settled.{row-asks-settled, row-opens-settled}
 use Rattle.lines.proofs.Decided.{row-asks-decided, row-opens-decided}
 use Rattle.desk.specs.Prints.{page, Result, firstNumber, firstRecord, State, first, going, over, Step, opens, shut, made, unread, ended, Stop, holdings, Prints}
@@ -71,8 +71,8 @@ stop-one Stop.empty Stop.empty = refl
 stop-one (Stop.result x) (Stop.result y) = result-one x y
 stop-one Stop.silent Stop.silent = refl
 
-pub single : Single holdings
-single = record { step = step-one; stop = stop-one }
+pub one-answer : OneAnswer holdings
+one-answer = record { step = step-one; stop = stop-one }
 
 -- some output
 
@@ -108,13 +108,13 @@ stop-some first good = ([], Stop.empty)
 stop-some (going r) good = let t = result r good in (t .0, Stop.result (t .1))
 stop-some (over r) good = ([], Stop.silent)
 
-total : Total holdings
-total = record { Can = λ s. Good (recordIn s); start = good-one; step = step-some; stop = stop-some }
+some-answer : SomeAnswer holdings
+some-answer = record { Can = λ s. Good (recordIn s); start = good-one; step = step-some; stop = stop-some }
 
 -- records stay good
-pub good-takes : {p q : Place holdings} {a said : List ℕ} → Takes holdings p a q said → Good (recordIn (stateIn p)) → Good (recordIn (stateIn q))
-unfolding total
-good-takes t g = can-takes single total t g
+pub good-takes : {p q : Position holdings} {a said : List ℕ} → Takes holdings p a q said → Good (recordIn (stateIn p)) → Good (recordIn (stateIn q))
+unfolding some-answer
+good-takes t g = can-takes one-answer some-answer t g
 
 pub exactly-one : (input : List ℕ) → (output : List ℕ) × Prints input output × ((other : List ℕ) → Prints input other → other ≡ output)
-exactly-one input = one-output single total input
+exactly-one input = one-output one-answer some-answer input

@@ -28,7 +28,7 @@ use Rattle.histories.specs.Histories.{Good, Given}
 use Rattle.histories.proofs.Afresh.{held-afresh, size-afresh, total-afresh, list-afresh}
 use Rattle.machine.proofs.Laid.{wrote-three}
 use Rattle.desk.specs.Prints.{heads, boxLines, lastLine, page}
-use Rattle.desk.specs.Parts.{OfRecord, Printed, Inside, lineRoom, resultRoom}
+use Rattle.desk.specs.Parts.{OfRecord, Printed, HaveEntries, lineRoom, resultRoom}
 use Rattle.desk.proofs.Texts.{heads-length, last-length, lines-same, boxes-below}
 
 ones-le : (n : ℕ) (class : ℕ → Bool) → sum n (λ c. only (class c) 1) ≤ n
@@ -48,7 +48,7 @@ module _ {r : Record} (good : Good r) where
     count : v .value ≡ length (g .list)
     count = ap (λ (x : Value). x .value) (g .value)
 
-    pub count-small : v .value ≤ 32
+    count-small : v .value ≤ 32
     count-small = omega (arith, count, at-most (r .marks) (good .class) (g .right), combinations-fit (r .marks) marks-small)
 
     pub count-inside : v .value ≤ length later
@@ -60,7 +60,7 @@ module _ {r : Record} (good : Good r) where
     front-long : length (take (v .value) later) ≡ v .value
     front-long = length-take-le (v .value) later count-inside
 
-    pub front-inside : (held : List ℕ) → length held ≡ entries → Inside (take (v .value) later) held
+    pub front-inside : (held : List ℕ) → length held ≡ entries → HaveEntries (take (v .value) later) held
     front-inside held long k h =
         let below = boxes-below (r .marks) (g .list) (g .right .fits .boxes) k (omega (arith, ap length front)) in
         subst (λ (l : List ℕ). getD l k 0 < length held) (sym front) (omega (arith, below, boxes-fit (r .marks) (good .marks)))

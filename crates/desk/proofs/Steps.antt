@@ -24,7 +24,7 @@ use Rattle.lines.specs.declared.First.{First}
 use Rattle.lines.specs.declared.First.the-variants.{Marks, NotMarks}
 use Rattle.lines.specs.Words.{RowAsks, RowOpens}
 use Rattle.desk.specs.Prints.{firstNumber, firstRecord, State, first, going, over, opens, shut, made, unread, ended, Step}
-use Rattle.desk.specs.States.{recordIn, stageIn, sessionOf}
+use Rattle.desk.specs.States.{recordIn, stageIn}
 use Rattle.desk.specs.Parts.{OfRecord, In, ledTo, FirstAnswered, SteppedTo, Printed}
 use Rattle.desk.specs.declared.session.Stage.{Stage}
 use Rattle.desk.specs.declared.session.Stage.the-variants.{Opening, Going, Over}

@@ -1,5 +1,5 @@
 -- The texts of the result: how long they are, and the lines one more at a time.
-use Prim.Native.Nat.{ℕ, zero, suc, _+_, _*_, _^_, _≤_, _<_}
+use Prim.Native.Nat.{ℕ, zero, suc, _+_, _^_, _≤_, _<_}
 use mathlib.Core.Path.{_≡_, refl, sym, ap, _∙_}
 use mathlib.Core.List.{List, [], _∷_, _++_, append-assoc, append-nil}
 use native.Mathlib.Numerals.{add-one}
@@ -42,15 +42,9 @@ pub last-length : (s : ℕ) → s < 2 ^ 64 → length (lastLine s) ≤ 28
 unfolding lastLine
 last-length s l = omega (arith, time-room s l, length-append (clock s) (10 ∷ []))
 
-pub lines-length : (m : ℕ) (f : ℕ → ℕ) (l : List ℕ) → m ≤ 5 → ((b : ℕ) → f b < 2 ^ 64) → length (boxLines m f l) ≤ 28 * length l
-unfolding boxLines
-lines-length m f [] h g = omega arith
-lines-length m f (b ∷ l) h g =
-    omega (arith, length-append (boxLine m b (f b)) (boxLines m f l), line-length m b (f b) h (g b), lines-length m f l h g)
-
 -- the lines, one more at a time
 
-pub lines-append : (m : ℕ) (f : ℕ → ℕ) (a b : List ℕ) → boxLines m f (a ++ b) ≡ boxLines m f a ++ boxLines m f b
+lines-append : (m : ℕ) (f : ℕ → ℕ) (a b : List ℕ) → boxLines m f (a ++ b) ≡ boxLines m f a ++ boxLines m f b
 unfolding boxLines
 lines-append m f [] b = refl
 lines-append m f (x ∷ a) b =

@@ -59,8 +59,8 @@ abbrev pub resultRoom : ℕ
 resultRoom = 1200
 
 -- each number of the list is the place of an entry
-abbrev pub Inside : List ℕ → List ℕ → Type 0
-Inside list held = (k : ℕ) → k < length list → getD list k 0 < length held
+abbrev pub HaveEntries : List ℕ → List ℕ → Type 0
+HaveEntries list held = (k : ℕ) → k < length list → getD list k 0 < length held
 
 -- the result was laid in the area
 pub record Printed (r : Record) (out : List ℕ) (at next : ℕ) (later : List ℕ) : Type 0 where

@@ -7,7 +7,7 @@ use lib.ListN.{length}
 use Rattle.sheet.specs.Limits.{entries}
 use Rattle.sheet.specs.Record.{Record, sheetOf, opened}
 use Rattle.histories.specs.Histories.{Good}
-use Rattle.machine.specs.Pieces.{Place, in-line, stateIn, Takes, FedBy, FinishedBy}
+use Rattle.machine.specs.Pieces.{Position, in-line, stateIn, Takes, FedBy, FinishedBy}
 use Rattle.machine.specs.AtHand.{typed}
 use Rattle.desk.specs.Prints.{State, first, going, over, holdings}
 use Rattle.desk.specs.declared.session.Stage.{Stage}
@@ -34,22 +34,22 @@ stageIn (over r) = Over
 abbrev pub sessionOf : State → Session
 sessionOf s = record { stage = stageIn s; sheet = sheetOf entries (recordIn s) }
 
--- the desk of a place
-abbrev pub deskOf : Place holdings → Desk
+-- the desk of a position
+abbrev pub deskOf : Position holdings → Desk
 deskOf (in-line k s begun) = record { line = typed k begun; session = sessionOf s }
 
--- the desk stands at this place
-pub record At (d : Desk) (p : Place holdings) : Type 0 where
+-- the desk stands at this position
+pub record At (d : Desk) (p : Position holdings) : Type 0 where
   pub is : d ≡ deskOf p
   pub good : Good (recordIn (stateIn p))
 
 -- a desk that stands somewhere
-abbrev pub Stands : Desk → Type 0
-Stands d = (p : Place holdings) × At d p
+abbrev pub DeskStands : Desk → Type 0
+DeskStands d = (p : Position holdings) × At d p
 
 -- a desk that stands somewhere, whose lines can be counted on, and an area with room for what a call prints
 pub record DeskReady (d : Desk) (out : List ℕ) : Type 0 where
-  pub stands : Stands d
+  pub stands : DeskStands d
   pub count : d .line .number + 1 < 2 ^ 64
   pub space : room ≤ length out
 
@@ -59,21 +59,21 @@ isOver Going = false
 isOver Over = true
 
 -- one call on a piece: what it took, the desk behind it, and what it wrote
-pub record FedTo (p : Place holdings) (piece out : List ℕ) (r : Fed) (later : List ℕ) : Type 0 where
-  pub place : Place holdings
-  pub fed : FedBy holdings p piece out (r .used) (r .wrote) place later
-  pub desk : r .desk ≡ deskOf place
+pub record FedTo (p : Position holdings) (piece out : List ℕ) (r : Fed) (later : List ℕ) : Type 0 where
+  pub position : Position holdings
+  pub fed : FedBy holdings p piece out (r .used) (r .wrote) position later
+  pub desk : r .desk ≡ deskOf position
 
 abbrev pub Feeds : Desk → List ℕ → List ℕ → Fed → List ℕ → Type 0
-Feeds d piece out r later = (p : Place holdings) → At d p → FedTo p piece out r later
+Feeds d piece out r later = (p : Position holdings) → At d p → FedTo p piece out r later
 
 -- the call at the end of the input
-abbrev pub Finishes : Desk → List ℕ → ℕ → List ℕ → Type 0
-Finishes d out wrote later = (p : Place holdings) → At d p → FinishedBy holdings p out wrote later
+abbrev pub Closes : Desk → List ℕ → ℕ → List ℕ → Type 0
+Closes d out wrote later = (p : Position holdings) → At d p → FinishedBy holdings p out wrote later
 
--- the desk has taken these bytes, from the place p on
-pub record Took (p : Place holdings) (bytes : List ℕ) (d : Desk) : Type 0 where
-  pub place : Place holdings
+-- the desk has taken these bytes, from the position p on
+pub record Took (p : Position holdings) (bytes : List ℕ) (d : Desk) : Type 0 where
+  pub position : Position holdings
   pub said : List ℕ
-  pub takes : Takes holdings p bytes place said
-  pub at : At d place
+  pub takes : Takes holdings p bytes position said
+  pub at : At d position

@@ -1,5 +1,4 @@
 // The result, laid in a lent area.
-ghost use mathlib.Core.Path.{_≡_};
 ghost use Prim.Native.Nat.{_+_, _*_, _≤_};
 ghost use lib.ListN.{length};
 ghost use Rattle.ground.specs.Areas.{Wrote};
@@ -7,7 +6,7 @@ ghost use Rattle.tables.specs.Tables.{entry};
 ghost use Rattle.sheet.specs.Limits.{mostMarks};
 ghost use Rattle.sheet.specs.Record.{Record};
 ghost use Rattle.desk.specs.Prints.{heads, boxLine, boxLines, lastLine};
-ghost use Rattle.desk.specs.Parts.{OfRecord, SheetOfRecord, Printed, Inside, headsRoom, lineRoom, resultRoom};
+ghost use Rattle.desk.specs.Parts.{OfRecord, SheetOfRecord, Printed, HaveEntries, headsRoom, lineRoom, resultRoom};
 use listing;
 use machine;
 use print;
@@ -36,7 +35,7 @@ fn put_line(out: &mut [u8], at: usize, m: usize, b: usize, seconds: u64) -> usiz
 // The lines of the list, with what the table keeps of each.
 fn put_lines(out: &mut [u8], at: usize, m: usize, held: &[u32], list: &[u8]) -> usize
     requires { ⌜ m ≤ mostMarks ⌝ }
-    requires { ⌜ Inside (now list) (now held) ⌝ }
+    requires { ⌜ HaveEntries (now list) (now held) ⌝ }
     requires { ⌜ at + lineRoom * length (now list) ≤ length (now out) ⌝ }
     ensures { λ r. ⌜ r ≤ at + 28 * length (now (list .entry)) ⌝ }
     ensures { λ r. ⌜ Wrote (now (out .entry)) at (boxLines m (entry (now (held .entry))) (now (list .entry))) r (now (out .exit)) ⌝ }

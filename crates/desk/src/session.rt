@@ -6,7 +6,7 @@ ghost use Rattle.sheet.specs.Record.{Record};
 ghost use Rattle.machine.specs.AtHand.{rowOf, LineFits};
 ghost use Rattle.machine.specs.Pieces.{start};
 ghost use Rattle.desk.specs.Prints.{State, first, going, holdings};
-ghost use Rattle.desk.specs.States.{room, At, DeskReady, isOver, Feeds, Finishes};
+ghost use Rattle.desk.specs.States.{room, At, DeskReady, isOver, Feeds, Closes};
 ghost use Rattle.desk.specs.Parts.{OfRecord, SheetOfRecord, In, ledTo, FirstAnswered, SteppedTo};
 use crate::page;
 use lines;
@@ -200,7 +200,7 @@ pub fn feed(d: Desk, piece: &[u8], out: &mut [u8]) -> Fed
 // The input is at its end: a last line without newline is refused, and the result is printed.
 pub fn finish(d: Desk, out: &mut [u8]) -> usize
     requires { ⌜ DeskReady d (now out) ⌝ }
-    ensures { λ r. ⌜ Finishes d (now (out .entry)) r (now (out .exit)) ⌝ }
+    ensures { λ r. ⌜ Closes d (now (out .entry)) r (now (out .exit)) ⌝ }
 {
     let line = d.line;
     let session = d.session;

@@ -6,9 +6,9 @@ ghost use mathlib.Core.Path.{_≡_};
 ghost use mathlib.Core.Bool.{false};
 ghost use Prim.Native.Nat.{_+_, _≤_, _<_, _^_};
 ghost use lib.ListN.{length};
-ghost use Rattle.machine.specs.Pieces.{Place};
+ghost use Rattle.machine.specs.Pieces.{Position};
 ghost use Rattle.desk.specs.Prints.{holdings};
-ghost use Rattle.desk.specs.States.{room, At, Stands, Took};
+ghost use Rattle.desk.specs.States.{room, At, DeskStands, Took};
 
 // The desk behind what was read, and whether the program stops.
 struct Served {
@@ -25,9 +25,9 @@ fn room() -> [u8; Desk::ROOM]
 
 // One piece of input: what a line says is written before the next line is looked at.
 fn serve(d: Desk, piece: &[u8]) -> Served
-    requires { ⌜ Stands d ⌝ }
+    requires { ⌜ DeskStands d ⌝ }
     requires { ⌜ d .line .number + length (now piece) < 2 ^ 63 ⌝ }
-    ensures { λ r. ⌜ (r .stop ≡ false → (p : Place holdings) → At d p → Took p (now (piece .entry)) (r .desk)) ⌝ }
+    ensures { λ r. ⌜ (r .stop ≡ false → (p : Position holdings) → At d p → Took p (now (piece .entry)) (r .desk)) ⌝ }
 {
     let mut desk = d;
     let mut out = room();
@@ -50,7 +50,7 @@ fn serve(d: Desk, piece: &[u8]) -> Served
 
 // The input is at its end.
 fn close(d: Desk)
-    requires { ⌜ Stands d ⌝ }
+    requires { ⌜ DeskStands d ⌝ }
     requires { ⌜ d .line .number + 1 < 2 ^ 63 ⌝ }
 {
     let mut out = room();
@@ -60,9 +60,9 @@ fn close(d: Desk)
 
 // One read. An error of reading ends the program.
 fn turn(d: Desk) -> Served
-    requires { ⌜ Stands d ⌝ }
+    requires { ⌜ DeskStands d ⌝ }
     requires { ⌜ d .line .number + 4096 < 2 ^ 63 ⌝ }
-    ensures { λ r. ⌜ (r .stop ≡ false → Stands (r .desk) × (r .desk .line .number ≤ d .line .number + 4096)) ⌝ }
+    ensures { λ r. ⌜ (r .stop ≡ false → DeskStands (r .desk) × (r .desk .line .number ≤ d .line .number + 4096)) ⌝ }
 {
     let mut buf = io::buffer();
     let got = libc::read(STDIN_FILENO, &mut buf);

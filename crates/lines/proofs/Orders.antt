@@ -113,7 +113,7 @@ pub data Part (m : ℕ) : Verb → List ℕ → Order → Type 0 where
 
 -- a line taken apart, and put together
 
-pub record Apart (m : ℕ) (line : List ℕ) (o : Order) : Type 0 where
+pub record VerbAndPart (m : ℕ) (line : List ℕ) (o : Order) : Type 0 where
   pub verb : Verb
   pub part : List ℕ
   pub text : line ≡ word verb ++ part
@@ -132,7 +132,7 @@ module _ {m : ℕ} {line : List ℕ} where
   behind-amount : {verb : List ℕ} {c d : ℕ} (n : NamesAmount m verb line c d) → NamesAmount m [] (written m c ++ ascii " " ++ n .time) c d
   behind-amount n = record { small = n .small; time = n .time; readable = n .readable; text = refl }
 
-  pub apart : {o : Order} → Says m line o → Apart m line o
+  pub apart : {o : Order} → Says m line o → VerbAndPart m line o
   apart (Says.enters n) = record { verb = enter; part = written m _; text = n .text; says = enters (behind-names n) }
   apart (Says.leaves n) = record { verb = leave; part = written m _; text = n .text; says = leaves (behind-names n) }
   apart (Says.receives n) =

@@ -1,5 +1,4 @@
 // The desk's lines: what the bytes of a line ask for. The reader takes the verb and hands on the part of the text behind it.
-ghost use mathlib.Core.Path.{_≡_};
 ghost use Prim.Native.Nat.{_≤_};
 ghost use Rattle.ground.specs.Decides.{Decides};
 ghost use Rattle.ground.specs.Texts.{Begins};

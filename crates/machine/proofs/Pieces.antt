@@ -14,7 +14,7 @@ use Rattle.ground.specs.Areas.{Wrote}
 use Rattle.ground.proofs.Areas.{wrote-none}
 use Rattle.machine.specs.Rows.{Row, spoiled, judged, rowsFrom, rows}
 use Rattle.machine.specs.Machine.{Machine, refusal, Onward, stopped, line, Output}
-use Rattle.machine.specs.Pieces.{Place, in-line, start, numberIn, Takes, none, byte, newline, Finishes, ended, cut-off, InPieces, done, piece, upTo, FedBy}
+use Rattle.machine.specs.Pieces.{Position, in-line, start, numberIn, Takes, none, byte, newline, Finishes, ended, cut-off, InPieces, done, piece, upToNewline, FedBy}
 use Rattle.machine.specs.AtHand.{typed, cutOf, cutOff}
 use Rattle.machine.specs.declared.line.Line.{Line}
 use Rattle.machine.specs.declared.line.Cut.{Cut}
@@ -28,13 +28,13 @@ rows-newline : (begun rest : List ℕ) → rowsFrom begun (10 ∷ rest) ≡ judg
 unfolding rowsFrom
 rows-newline begun rest = refl
 
--- what is yet printed from a place on, where `rest` is all that follows
-data Yet (M : Machine) : Place M → List ℕ → List ℕ → Type 0 where
+-- what is yet printed from a position on, where `rest` is all that follows
+data Yet (M : Machine) : Position M → List ℕ → List ℕ → Type 0 where
   yet : {k : ℕ} {s : M .State} {begun rest text : List ℕ} → Onward M k s (rowsFrom begun rest) text → Yet M (in-line k s begun) rest text
 
 module _ {M : Machine} where
   -- bytes taken in two goes
-  pub takes-then : {p q r : Place M} {a b x y : List ℕ} → Takes M p a q x → Takes M q b r y → Takes M p (a ++ b) r (x ++ y)
+  takes-then : {p q r : Position M} {a b x y : List ℕ} → Takes M p a q x → Takes M q b r y → Takes M p (a ++ b) r (x ++ y)
   takes-then none q = q
   takes-then (byte n p) q = byte n (takes-then p q)
   takes-then {p} {r = r} {b = b} {y = y} (newline {rest = rest} {now = now} {later = later} e t) q =
@@ -43,7 +43,7 @@ module _ {M : Machine} where
   onward : {k : ℕ} {s : M .State} {begun rest text : List ℕ} → Yet M (in-line k s begun) rest text → Onward M k s (rowsFrom begun rest) text
   onward (yet y) = y
 
-  yet-takes : {p q : Place M} {a said rest text : List ℕ} → Takes M p a q said → Yet M q rest text → Yet M p (a ++ rest) (said ++ text)
+  yet-takes : {p q : Position M} {a said rest text : List ℕ} → Takes M p a q said → Yet M q rest text → Yet M p (a ++ rest) (said ++ text)
   yet-takes none y = y
   yet-takes {rest = rest} {text = text} (byte {k} {b} {s} {begun} {rest = a} {said = said} n p) y =
       yet (subst (λ (l : List Row). Onward M k s l (said ++ text)) (sym (rows-byte begun b (a ++ rest) n)) (onward (yet-takes p y)))
@@ -51,13 +51,13 @@ module _ {M : Machine} where
       yet (subst (λ (l : List Row). Onward M k s l ((now ++ later) ++ text)) (sym (rows-newline begun (a ++ rest)))
       (subst (λ (l : List ℕ). Onward M k s (judged begun ∷ rows (a ++ rest)) l) (sym (append-assoc now later text)) (line e (onward (yet-takes p y)))))
 
-  yet-finishes : {p : Place M} {text : List ℕ} → Finishes M p text → Yet M p [] text
+  yet-finishes : {p : Position M} {text : List ℕ} → Finishes M p text → Yet M p [] text
   unfolding rowsFrom
   yet-finishes (ended t) = yet (stopped t)
   yet-finishes (cut-off {k} {b} {s} {begun = begun} {now = now} {text = text} e t) =
       yet {k = k} {s = s} {begun = b ∷ begun} {rest = []} {text = now ++ text} (rw (ne-eqb (suc (length begun)) 0 (λ z. omega arith)) (line e (stopped t)))
 
-  yet-pieces : {p : Place M} {pieces : List (List ℕ)} {text : List ℕ} → InPieces M p pieces text → Yet M p (flatten pieces) text
+  yet-pieces : {p : Position M} {pieces : List (List ℕ)} {text : List ℕ} → InPieces M p pieces text → Yet M p (flatten pieces) text
   unfolding flatten
   yet-pieces (done f) = yet-finishes f
   yet-pieces (piece p q) = yet-takes p (yet-pieces q)
@@ -73,28 +73,28 @@ prompt M a said rest text p y = onward (yet-takes p (yet y))
 
 -- one call on a piece
 
-pub upTo-le : (l : List ℕ) → upTo l ≤ length l
-unfolding upTo
+upTo-le : (l : List ℕ) → upToNewline l ≤ length l
+unfolding upToNewline
 upTo-le [] = omega arith
 upTo-le (b ∷ l) = if (eqb b 10) (λ e. rw e (omega arith)) (λ e. rw e (omega (arith, upTo-le l)))
 
-pub upTo-pos : (l : List ℕ) → 0 < length l → 0 < upTo l
-unfolding upTo
+upTo-pos : (l : List ℕ) → 0 < length l → 0 < upToNewline l
+unfolding upToNewline
 upTo-pos [] h = absurd (omega arith)
 upTo-pos (b ∷ l) h = if (eqb b 10) (λ e. rw e (omega arith)) (λ e. rw e (omega arith))
 
 -- what is cut of a piece makes the line at hand longer, and may end it
 pub record Grown (M : Machine) (k : ℕ) (s : M .State) (begun a : List ℕ) (c : Cut) : Type 0 where
   pub whole : List ℕ
-  pub used : c .used ≡ upTo a
+  pub used : c .used ≡ upToNewline a
   pub line : c .line ≡ typed k whole
-  pub quiet : c .ended ≡ false → Takes M (in-line k s begun) (take (upTo a) a) (in-line k s whole) []
+  pub quiet : c .ended ≡ false → Takes M (in-line k s begun) (take (upToNewline a) a) (in-line k s whole) []
   pub over : {t : M .State} {now : List ℕ} → c .ended ≡ true → M .step k s (judged whole) t now
-      → Takes M (in-line k s begun) (take (upTo a) a) (in-line (k + 1) t []) now
+      → Takes M (in-line k s begun) (take (upToNewline a) a) (in-line (k + 1) t []) now
 
 module _ {M : Machine} {k : ℕ} {s : M .State} where
   grown-newline : (begun a : List ℕ) (b : ℕ) → b ≡ 10 → Grown M k s begun (b ∷ a) (record { line = typed k begun; used = 1; ended = true })
-  unfolding upTo
+  unfolding upToNewline
   grown-newline begun a b z = subst (λ (x : ℕ). Grown M k s begun (x ∷ a) (record { line = typed k begun; used = 1; ended = true })) (sym z) (record {
     whole = begun;
     used = refl;
@@ -105,7 +105,7 @@ module _ {M : Machine} {k : ℕ} {s : M .State} where
 
   grown-byte : {begun a : List ℕ} {b : ℕ} {c : Cut} → (b ≡ 10 → ⊥) → Grown M k s (begun ++ b ∷ []) a c
       → Grown M k s begun (b ∷ a) (record { line = c .line; used = suc (c .used); ended = c .ended })
-  unfolding upTo
+  unfolding upToNewline
   grown-byte {begun} {a} {b} {c} n g = record {
     whole = g .whole;
     used = rw (ne-eqb b 10 n) (ap suc (g .used));
@@ -115,7 +115,7 @@ module _ {M : Machine} {k : ℕ} {s : M .State} where
   }
 
   grown : (begun a : List ℕ) → Grown M k s begun a (cutOf (typed k begun) a)
-  unfolding cutOf upTo
+  unfolding cutOf upToNewline
   grown begun [] = record { whole = begun; used = refl; line = refl; quiet = λ e. none; over = λ e t. clash e refl }
   grown begun (b ∷ a) =
       if (eqb b 10)
@@ -143,7 +143,7 @@ finishes-cut t (x ∷ begun) text e a b = rw (none-judged (x ∷ begun), ne-eqb 
 
 -- for a caller that goes on behind the call
 
-pub takes-number : {M : Machine} {p q : Place M} {a said : List ℕ} → Takes M p a q said → numberIn q ≤ numberIn p + length a
+pub takes-number : {M : Machine} {p q : Position M} {a said : List ℕ} → Takes M p a q said → numberIn q ≤ numberIn p + length a
 takes-number none = omega arith
 takes-number (byte n p) = omega (arith, takes-number p)
 takes-number (newline e p) = omega (arith, takes-number p)
@@ -157,14 +157,14 @@ module _ (whole : List ℕ) (at : ℕ) where
   unfolding rest
   rest-is = take-all (length whole - at) (drop at whole) (omega (arith, length-drop at whole))
 
-  module _ {M : Machine} {q r : Place M} {out later : List ℕ} {used wrote : ℕ} (f : FedBy M q (take (length whole - at) (drop at whole)) out used wrote r later) where
+  module _ {M : Machine} {q r : Position M} {out later : List ℕ} {used wrote : ℕ} (f : FedBy M q (take (length whole - at) (drop at whole)) out used wrote r later) where
     pub rest-used : at < length whole → (0 < used) × (at + used ≤ length whole)
     unfolding rest
     rest-used h =
         let n : length rest ≡ length whole - at = ap length rest-is ∙ length-drop at whole in
         (omega (arith, f .used, upTo-pos rest (omega arith)), omega (arith, f .used, upTo-le rest))
 
-    pub takes-rest : {p : Place M} {said : List ℕ} → Takes M p (take at whole) q said → Takes M p (take (at + used) whole) r (said ++ f .said)
+    pub takes-rest : {p : Position M} {said : List ℕ} → Takes M p (take at whole) q said → Takes M p (take (at + used) whole) r (said ++ f .said)
     unfolding rest
     takes-rest {p} {said} w =
         subst (λ (l : List ℕ). Takes M p l r (said ++ f .said))

@@ -3,13 +3,13 @@ use Prim.Native.Nat.{_+_, _*_, _^_, _<_}
 use native.Mathlib.Omega.{arith}
 use Rattle.machine.specs.Pieces.{start}
 use Rattle.desk.specs.Prints.{holdings}
-use Rattle.desk.specs.States.{Stands}
+use Rattle.desk.specs.States.{DeskStands}
 use Rattle.desk.proofs.Desks.{at-number}
 use Rattle.holdings.proofs.main.Statement.{statement}
 use Rattle.holdings.proofs.main.Tie as tie
 
 abbrev Inv-loop : tie.InvT-loop
-Inv-loop desk₀ turns₀ desk turns = Stands desk × (desk .line .number + turns * 4096 < 2 ^ 63)
+Inv-loop desk₀ turns₀ desk turns = DeskStands desk × (desk .line .number + turns * 4096 < 2 ^ 63)
 
 abbrev μ-loop : tie.MeasureT-loop
 μ-loop desk₀ turns₀ desk turns = turns

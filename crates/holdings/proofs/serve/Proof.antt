@@ -6,7 +6,7 @@ use mathlib.Core.Path.{_≡_, sym, _∙_, subst}
 use native.Mathlib.Omega.{arith}
 use lib.Seq.{length-take-le, take-all}
 use lib.ListN.{length, take, drop}
-use Rattle.machine.specs.Pieces.{Place}
+use Rattle.machine.specs.Pieces.{Position}
 use Rattle.machine.proofs.Pieces.{rest-used}
 use Rattle.desk.specs.Prints.{holdings}
 use Rattle.desk.specs.States.{room, At, FedTo, Took}
@@ -16,7 +16,7 @@ use Rattle.holdings.proofs.serve.Statement.{statement}
 use Rattle.holdings.proofs.serve.Tie as tie
 
 abbrev Inv-loop : tie.InvT-loop
-Inv-loop piece desk₀ out₀ at₀ desk out at = (at ≤ length piece) × (room ≡ length out) × ((p : Place holdings) → At desk₀ p → Took p (take at piece) desk)
+Inv-loop piece desk₀ out₀ at₀ desk out at = (at ≤ length piece) × (room ≡ length out) × ((p : Position holdings) → At desk₀ p → Took p (take at piece) desk)
 
 abbrev μ-loop : tie.MeasureT-loop
 μ-loop piece desk₀ out₀ at₀ desk out at = length piece - at
@@ -24,8 +24,8 @@ abbrev μ-loop : tie.MeasureT-loop
 -- the desk at the head of the loop, and what the call on the rest of the piece did
 fed : (c : tie.After-feed Inv-loop μ-loop) →
     let w = c .before .before .before .before .loop .inv .2 (c .before .before .before .before .before .before .before .pre .0 .0) (c .before .before .before .before .before .before .before .pre .0 .1) in
-    FedTo (w .place) (take (length (c .before .before .before .before .before .before .before .args .piece .now) - c .before .before .before .before .loop .at) (drop (c .before .before .before .before .loop .at) (c .before .before .before .before .before .before .before .args .piece .now))) (c .before .before .before .before .loop .out) (c .feed .result) (c .feed .last .1 .1 .0)
-fed c = let w = c .before .before .before .before .loop .inv .2 (c .before .before .before .before .before .before .before .pre .0 .0) (c .before .before .before .before .before .before .before .pre .0 .1) in c .feed .ensures (w .place) (w .at)
+    FedTo (w .position) (take (length (c .before .before .before .before .before .before .before .args .piece .now) - c .before .before .before .before .loop .at) (drop (c .before .before .before .before .loop .at) (c .before .before .before .before .before .before .before .args .piece .now))) (c .before .before .before .before .loop .out) (c .feed .result) (c .feed .last .1 .1 .0)
+fed c = let w = c .before .before .before .before .loop .inv .2 (c .before .before .before .before .before .before .before .pre .0 .0) (c .before .before .before .before .before .before .before .pre .0 .1) in c .feed .ensures (w .position) (w .at)
 
 used : (c : tie.After-feed Inv-loop μ-loop) → (0 < c .feed .result .used) × (c .before .before .before .before .loop .at + c .feed .result .used ≤ length (c .before .before .before .before .before .before .before .args .piece .now))
 used c = rest-used (c .before .before .before .before .before .before .before .args .piece .now) (c .before .before .before .before .loop .at) (fed c .fed) (c .before .before .before .loop-test .taken)
@@ -55,7 +55,7 @@ feed-requires c κs =
     let w = l .inv .2 (s .pre .0 .0) (s .pre .0 .1) in
     let n = took-number (s .pre .0 .1) w in
     let k = length-take-le (l .at) (s .args .piece .now) (l .inv .0) in
-    record { stands = (w .place, w .at); count = omega (arith, n, s .pre .1, c .before .before .loop-test .taken); space = omega (arith, l .inv .1) }
+    record { stands = (w .position, w .at); count = omega (arith, n, s .pre .1, c .before .before .loop-test .taken); space = omega (arith, l .inv .1) }
 
 array-share-prefix-out : tie.Need-array-share-prefix-out Inv-loop μ-loop
 array-share-prefix-out c = wrote-front (fed (c .before .before) .fed .laid) .1
@@ -87,7 +87,7 @@ loop-again c =
     let l = c .before .before .before .before .before .before .before .before .before .before .before .before .loop in
     let s = c .before .before .before .before .before .before .before .before .before .before .before .before .before .before .before in
     let f = c .before .before .before .before .before .before .before .before .feed in
-    (p .1, l .inv .1 ∙ sym (f .kept .1 .1 .0), λ t at. let w = l .inv .2 t at in took-more (s .args .piece .now) (l .at) w (f .ensures (w .place) (w .at)))
+    (p .1, l .inv .1 ∙ sym (f .kept .1 .1 .0), λ t at. let w = l .inv .2 t at in took-more (s .args .piece .now) (l .at) w (f .ensures (w .position) (w .at)))
 
 returns-3 : tie.Need-returns-3 Inv-loop μ-loop
 returns-3 c =

@@ -46,7 +46,7 @@ returns-3 c =
     let w = c .serve .ensures e (s .pre .0 .0) (s .pre .0 .1) in
     let n = took-number (s .pre .0 .1) w in
     let k = c .before .before .before .count .ensures .0 in
-    ((w .place, w .at), omega (arith, n, k .0, k .1, c .before .before .before .before .before .before .before .read .kept .1 .0, c .before .before .before .before .before .before .before .before .before .buffer .ensures))
+    ((w .position, w .at), omega (arith, n, k .0, k .1, c .before .before .before .before .before .before .before .read .kept .1 .0, c .before .before .before .before .before .before .before .before .before .buffer .ensures))
 
 pub turn-spec : {M : Type 1} → statement M
 turn-spec =

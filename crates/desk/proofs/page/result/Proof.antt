@@ -6,7 +6,6 @@ use lib.Seq.{length-take-le}
 use borrow.Author.Needs.{needs}
 use Rattle.sheet.specs.Record.{Record}
 use Rattle.histories.specs.Histories.{Given}
-use Rattle.ground.proofs.Areas.{wrote-length}
 use Rattle.desk.specs.Parts.{OfRecord}
 use Rattle.desk.proofs.Results.{sheet-marks, given, count-inside, front-inside, lines-room, total-room, printed}
 use Rattle.desk.proofs.page.result.Statement.{statement}

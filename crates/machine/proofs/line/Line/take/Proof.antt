@@ -1,16 +1,16 @@
--- What is cut of the whole piece is what is cut of its rest, i bytes behind (`behind`).
+-- What is cut of the whole piece is what is cut of its rest, i bytes shifted (`shifted`).
 use Prim.Native.Nat.{_+_, _≤_, _-_}
 use mathlib.Core.Path.{_≡_, sym, ap, _∙_, subst}
 use native.Mathlib.Omega.{arith}
 use lib.ListN.{length, drop}
 use Rattle.machine.specs.AtHand.{LineFits, cutOf}
 use Rattle.machine.specs.declared.line.Line.{Line}
-use Rattle.machine.proofs.AtHand.{fits-pushed, behind, cut-none, cut-newline, cut-byte, cut-all}
+use Rattle.machine.proofs.AtHand.{fits-pushed, shifted, cut-none, cut-newline, cut-byte, cut-all}
 use Rattle.machine.proofs.line.Line.take.Statement.{statement}
 use Rattle.machine.proofs.line.Line.take.Tie as tie
 
 abbrev Inv-loop : tie.InvT-loop
-Inv-loop piece line₀ i₀ line i = (i ≤ length piece) × LineFits line × (cutOf line₀ piece ≡ behind i (cutOf line (drop i piece)))
+Inv-loop piece line₀ i₀ line i = (i ≤ length piece) × LineFits line × (cutOf line₀ piece ≡ shifted i (cutOf line (drop i piece)))
 
 abbrev μ-loop : tie.MeasureT-loop
 μ-loop piece line₀ i₀ line i = length piece - i
@@ -40,7 +40,7 @@ loop-again c =
       omega arith,
       subst LineFits (sym (c .push .ensures)) (fits-pushed (l .line) _ (l .inv .1)),
       l .inv .2 ∙ cut-byte (l .line) piece (l .i) (omega arith) (c .before .if1 .left)
-          ∙ ap (λ (x : Line). behind (l .i + 1) (cutOf x (drop (l .i + 1) piece))) (sym (c .push .ensures)),
+          ∙ ap (λ (x : Line). shifted (l .i + 1) (cutOf x (drop (l .i + 1) piece))) (sym (c .push .ensures)),
     )
 
 returns-2 : tie.Need-returns-2 Inv-loop μ-loop
