@@ -112,12 +112,12 @@ module _ {r : Record} {sheet : Sheet} (of : OfRecord sheet r) where
       lines-room = omega (arith, p .place, heads-short, front-long (of .good) g, count-small (of .good) g, wrote-length p (omega (arith, heads-short)))
 
       -- and for the total behind the lines
-      pub total-room : {b : ℕ} → b ≤ a + 28 * length (take (v .value) later) → b + lineRoom ≤ length out
+      pub total-room : {b : ℕ} → b ≤ a + lineRoom * length (take (v .value) later) → b + lineRoom ≤ length out
       total-room h = omega (arith, p .place, heads-short, front-long (of .good) g, count-small (of .good) g)
 
       pub printed : {o₂ o₃ : List ℕ} {b k : ℕ} {total : Value} → Totalled mostMarks sheet total
           → Wrote o₁ a (boxLines (sheet .marks) (entry (sheet .held)) (take (v .value) later)) b o₂
-          → b ≤ a + 28 * length (take (v .value) later)
+          → b ≤ a + lineRoom * length (take (v .value) later)
           → Wrote o₂ b (lastLine (total .value)) k o₃ → Printed r out at k o₃
       unfolding page
       printed {total = total} totalled q short t =

@@ -8,6 +8,7 @@ use lib.ListN.{length, getD, take, length-append}
 use lib.Seq.{take-suc}
 use Rattle.lists.specs.Lists.{Boxes}
 use Rattle.ground.specs.Texts.{ascii}
+use Rattle.sheet.specs.Limits.{mostMarks}
 use Rattle.print.specs.Texts.{decimal, clock, pattern}
 use Rattle.print.proofs.Digits.{number-room, time-room, pattern-length}
 use Rattle.desk.specs.Prints.{heads, boxLine, boxLines, lastLine}
@@ -26,7 +27,7 @@ heads-length x y h l =
       length-append (decimal x ++ ascii "\nlines " ++ decimal y) (10 ∷ []),
     )
 
-pub line-length : (m b s : ℕ) → m ≤ 5 → s < 2 ^ 64 → length (boxLine m b s) ≤ 28
+pub line-length : (m b s : ℕ) → m ≤ mostMarks → s < 2 ^ 64 → length (boxLine m b s) ≤ 28
 unfolding boxLine
 line-length m b s h l =
     omega (

@@ -1,5 +1,6 @@
--- What a desk session prints (01, 'Desk program'): which output bytes belong to which input bytes. Orders are carried out on the record of marks,
--- class and times; the printed list is the first shortest one.
+-- What a desk session prints (01, 'Desk program'): which output bytes belong to which input bytes. It is told line by line: what a line leads to and
+-- prints at once (`Step`), and what the end of the input prints (`Stop`); machine/specs/Machine puts these together. Calls are made on the record of
+-- marks, class and times; the printed list is the first shortest one.
 use Prim.Native.Nat.{ℕ}
 use mathlib.Core.Path.{_≡_}
 use mathlib.Core.Bool.{cond}
@@ -62,7 +63,7 @@ abbrev pub firstRecord : First → Record
 firstRecord (Marks n) = cond (marksOk mostMarks n) (opened n) (opened 1)
 firstRecord NotMarks = opened 1
 
--- where a session stands: in front of line 1, behind it with a record, or over
+-- where a session stands: in front of line 1, behind it with a record, or over with the record that it ended with
 pub data State : Type 0 where
   first : State
   going : Record → State
@@ -77,6 +78,7 @@ pub data Step (k : ℕ) : State → Row → State → List ℕ → Type 0 where
   made : {r : Record} {row : Row} {c : Call} → RowAsks (r .marks) row (Make c) → Step k (going r) row (going (after r c)) (spoken k (numberOf r c))
   unread : {r : Record} {row : Row} → RowAsks (r .marks) row Unreadable → Step k (going r) row (going r) (refusal k 10)
   ended : {r : Record} {row : Row} {text : List ℕ} → RowAsks (r .marks) row End → Result r text → Step k (going r) row (over r) text
+  -- nothing is printed when it is over
   silent : {r : Record} {row : Row} → Step k (over r) row (over r) []
 
 -- the end of the input: empty input prints nothing, else the result is printed
@@ -88,6 +90,6 @@ pub data Stop : State → List ℕ → Type 0 where
 abbrev pub holdings : Machine
 holdings = record { State = State; start = first; step = Step; stop = Stop }
 
--- THE OUTPUT OF AN INPUT, line by line
+-- THE OUTPUT OF AN INPUT
 abbrev pub Prints : List ℕ → List ℕ → Type 0
 Prints input output = Output holdings input output

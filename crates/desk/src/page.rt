@@ -37,7 +37,7 @@ fn put_lines(out: &mut [u8], at: usize, m: usize, held: &[u32], list: &[u8]) -> 
     requires { ⌜ m ≤ mostMarks ⌝ }
     requires { ⌜ HaveEntries (now list) (now held) ⌝ }
     requires { ⌜ at + lineRoom * length (now list) ≤ length (now out) ⌝ }
-    ensures { λ r. ⌜ r ≤ at + 28 * length (now (list .entry)) ⌝ }
+    ensures { λ r. ⌜ r ≤ at + lineRoom * length (now (list .entry)) ⌝ }
     ensures { λ r. ⌜ Wrote (now (out .entry)) at (boxLines m (entry (now (held .entry))) (now (list .entry))) r (now (out .exit)) ⌝ }
 {
     let mut next = at;

@@ -36,14 +36,14 @@ pub struct Desk {
     pub session: Session,
 }
 
-// What one call took of the input, and what it wrote.
+// The desk behind a call, how much of the input it used, and how much it wrote.
 pub struct Fed {
     pub desk: Desk,
     pub used: usize,
     pub wrote: usize,
 }
 
-// Where a line leads, and what was written.
+// Where a line leads, and how much was written.
 pub struct Stepped {
     pub session: Session,
     pub wrote: usize,
@@ -98,6 +98,7 @@ pub fn first_answer(line: Line) -> Answer
     Sheet::open(m)
 }
 
+// What a line leads to.
 fn led_to(stage: Stage, sheet: Sheet, wrote: usize) -> Stepped
     ensures { λ r. ⌜ r ≡ ledTo stage sheet wrote ⌝ }
 {

@@ -1,4 +1,4 @@
--- The line at hand in the code: its number, and as much of it as has come.
+-- What the functions tell their callers of the line at hand: its number, and as much of it as has come.
 use Prim.Native.Nat.{ℕ, suc, _+_, _≤_}
 use mathlib.Core.Bool.{Bool, false, true, cond}
 use mathlib.Core.Path.{_≡_}

@@ -1,5 +1,5 @@
 -- A PROGRAM THAT ANSWERS LINE BY LINE, whatever its states are: what a line leads to and prints at once, and what the end of the input prints.
--- What it prints of a whole input follows (`Output`).
+-- What is printed of a whole input follows (`Output`). A program supplies its `Machine`, and has the theorems of proofs/Pieces and proofs/Outputs.
 use Prim.Native.Nat.{ℕ, _+_}
 use mathlib.Core.Bool.{cond}
 use mathlib.Core.List.{List, [], _∷_, _++_}

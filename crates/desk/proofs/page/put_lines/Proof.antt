@@ -7,6 +7,7 @@ use lib.ListN.{length, getD, take}
 use borrow.Author.Needs.{needs}
 use Rattle.desk.proofs.Texts.{line-length, lines-more}
 use Rattle.desk.specs.Prints.{boxLine, boxLines}
+use Rattle.desk.specs.Parts.{lineRoom}
 use Rattle.tables.specs.Tables.{entry}
 use Rattle.ground.proofs.Areas.{wrote-none, wrote-then, wrote-text, wrote-length}
 use Rattle.ground.specs.Areas.{Wrote}
@@ -14,7 +15,7 @@ use Rattle.desk.proofs.page.put_lines.Statement.{statement}
 use Rattle.desk.proofs.page.put_lines.Tie as tie
 
 abbrev Inv-loop : tie.InvT-loop
-Inv-loop out₀ at m held list next₀ i₀ out next i = (i ≤ length list) × (length out ≡ length out₀) × (next ≤ at + 28 * i) × Wrote out₀ at (boxLines m (entry held) (take i list)) next out
+Inv-loop out₀ at m held list next₀ i₀ out next i = (i ≤ length list) × (length out ≡ length out₀) × (next ≤ at + lineRoom * i) × Wrote out₀ at (boxLines m (entry held) (take i list)) next out
 
 abbrev μ-loop : tie.MeasureT-loop
 μ-loop out₀ at m held list next₀ i₀ out next i = length list - i

@@ -4,6 +4,7 @@ use native.Mathlib.Omega.{arith}
 use lib.ListN.{length}
 use lib.Seq.{length-take-le}
 use borrow.Author.Needs.{needs}
+use Rattle.sheet.specs.Limits.{entries}
 use Rattle.sheet.specs.Record.{Record}
 use Rattle.histories.specs.Histories.{Given}
 use Rattle.desk.specs.Parts.{OfRecord}
@@ -52,7 +53,7 @@ put-lines-requires c κs =
     let s = c .before .before .before .before .before .before .before .before .before .before .before .before .before .before .before in
     let of = s .pre .0 .1 in
     let g = list-given (c .before .before .before .before .before .before .before .before .before) of in
-    let long : length (s .args .sheet .held) ≡ 243 = search needs in (
+    let long : length (s .args .sheet .held) ≡ entries = search needs in (
       sheet-marks of,
       (
         front-inside (of .good) g (s .args .sheet .held) long,
