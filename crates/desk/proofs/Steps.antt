@@ -23,6 +23,7 @@ use Rattle.lines.specs.declared.Order.the-variants.{Make, End, Unreadable}
 use Rattle.lines.specs.declared.First.{First}
 use Rattle.lines.specs.declared.First.the-variants.{Marks, NotMarks}
 use Rattle.lines.specs.Words.{RowAsks, RowOpens}
+use Rattle.lines.proofs.Settled.{row-opens-settled}
 use Rattle.desk.specs.Prints.{firstNumber, firstRecord, State, first, going, over, opens, shut, made, unread, ended, Step}
 use Rattle.desk.specs.States.{recordIn, stageIn}
 use Rattle.desk.specs.Parts.{OfRecord, In, ledTo, FirstAnswered, SteppedTo, Printed}
@@ -42,6 +43,10 @@ first-marks {row} {n = n} w q e = record { says = Marks n; opens = subst (RowOpe
   where
     go : _≡_ {A = Answer} (openOf mostMarks entries n) (record { number = firstNumber (Marks n); sheet = sheetOf entries (firstRecord (Marks n)) })
     go = if (marksOk mostMarks n) (λ q. rw q) (λ q. rw q)
+
+pub first-settled : {row : Row} {a b : Answer} → FirstAnswered row a → FirstAnswered row b → a ≡ b
+first-settled f g =
+    f .is ∙ ap (λ (x : First). record { number = firstNumber x; sheet = sheetOf entries (firstRecord x) }) (row-opens-settled (f .opens) (g .opens)) ∙ sym (g .is)
 
 -- line 1
 

@@ -29,7 +29,7 @@ use Rattle.lines.specs.declared.Amount.the-variants.{Seconds, NoAmount}
 use Rattle.lines.specs.Words.{Names, NamesAmount, Asked, Opens, RowAsks, RowOpens}
 use Rattle.lines.specs.Parts.{Patterned, Amounts}
 use Rattle.lines.proofs.Patterns.{Tail, tail-none, tail-more, pattern-long, pattern-other, pattern-read}
-use Rattle.lines.proofs.Orders.{amount-short, amount-unspaced, amount-unnamed, amount-untimed, amount-read, Verb, enter, leave, receive, withdraw, end, word, Part, enters, leaves, receives, withdraws, named, unnamed, amounted, unamounted, enter-unsaid, leave-unsaid, receive-unsaid, withdraw-unsaid, asked-said, asked-unsaid, asked-end, asked-more, asked-nothing, opens-other, opens-long, opens-byte, opens-marks}
+use Rattle.lines.proofs.Orders.{amount-short, amount-unspaced, amount-unnamed, amount-untimed, amount-read, Verb, enter, leave, receive, withdraw, end, word, Part, enters, leaves, receives, withdraws, enter-unsaid, leave-unsaid, receive-unsaid, withdraw-unsaid, asked-said, asked-unsaid, asked-end, asked-more, asked-nothing, opens-other, opens-long, opens-byte, opens-marks}
 
 -- a line begins with a verb or does not
 begins-or : {P : Type 0} (verb line : List ℕ) → (Begins verb line → P) → ((Begins verb line → ⊥) → P) → P
@@ -125,16 +125,16 @@ module _ (m : ℕ) where
   pattern-asked {line} v call says unsaid b = go (pattern-decided m (b .0))
     where
       go : (p : Pattern) × Patterned m (b .0) p → (o : Order) × Asked m line o
-      go (Combination c, w) = (Make (call c), asked-said v (b .1) (says (b .0) c (named w refl)))
-      go (NoPattern, w) = (Unreadable, asked-unsaid v (b .0) (b .1) (unsaid (b .0) (unnamed w refl)))
+      go (Combination c, w) = (Make (call c), asked-said v (b .1) (says (b .0) c w))
+      go (NoPattern, w) = (Unreadable, asked-unsaid v (b .0) (b .1) (unsaid (b .0) w))
 
   amount-asked : {line : List ℕ} (v : Verb) (call : ℕ → ℕ → Call) → ((part : List ℕ) (c d : ℕ) → NamesAmount m [] part c d → Part m v part (Make (call c d)))
       → ((part : List ℕ) → ((c d : ℕ) → NamesAmount m [] part c d → ⊥) → (o : Order) → Part m v part o → ⊥) → Begins (word v) line → (o : Order) × Asked m line o
   amount-asked {line} v call says unsaid b = go (amount-decided m (b .0))
     where
       go : (a : Amount) × Amounts m (b .0) a → (o : Order) × Asked m line o
-      go (Seconds c d, w) = (Make (call c d), asked-said v (b .1) (says (b .0) c d (amounted w refl)))
-      go (NoAmount, w) = (Unreadable, asked-unsaid v (b .0) (b .1) (unsaid (b .0) (unamounted w refl)))
+      go (Seconds c d, w) = (Make (call c d), asked-said v (b .1) (says (b .0) c d w))
+      go (NoAmount, w) = (Unreadable, asked-unsaid v (b .0) (b .1) (unsaid (b .0) w))
 
   verb-asked : {line : List ℕ} (v : Verb) → Begins (word v) line → (o : Order) × Asked m line o
   verb-asked enter b = pattern-asked enter Enter (λ part c n. enters n) (λ part. enter-unsaid) b

@@ -16,12 +16,10 @@ use Rattle.sheet.specs.declared.Call.the-variants.{Enter, Leave, Receive, Withd
 use Rattle.lines.specs.declared.Order.{Order}
 use Rattle.lines.specs.declared.Order.the-variants.{Make, End, Unreadable}
 use Rattle.lines.specs.declared.First.the-variants.{Marks, NotMarks}
-use Rattle.lines.specs.declared.Pattern.{Pattern}
 use Rattle.lines.specs.declared.Pattern.the-variants.{Combination, NoPattern}
-use Rattle.lines.specs.declared.Amount.{Amount}
 use Rattle.lines.specs.declared.Amount.the-variants.{Seconds, NoAmount}
 use Rattle.lines.specs.Words.{written, Names, NamesAmount, Says, Asked, said, nothing, Opens, marks, other}
-use Rattle.lines.specs.Parts.{Patterned, combination, Amounts, seconds}
+use Rattle.lines.specs.Parts.{Patterned, Amounts}
 use Rattle.lines.proofs.Patterns.{written-length}
 
 -- P, one space and T
@@ -29,15 +27,15 @@ use Rattle.lines.proofs.Patterns.{written-length}
 module _ (m : ℕ) (part : List ℕ) where
   pub amount-short : length part ≤ m → Amounts m part NoAmount
   amount-short h =
-      Amounts.none (λ c d n.
-      omega (arith, ap length (n .text), written-length m c, length-append (written m c ++ ascii " ") (n .time), length-append (written m c) (ascii " ")))
+      λ c d n.
+      omega (arith, ap length (n .text), written-length m c, length-append (written m c ++ ascii " ") (n .time), length-append (written m c) (ascii " "))
 
   space-at : {c d : ℕ} (n : NamesAmount m [] part c d) → getD part m 0 ≡ 32
   space-at {c} n =
       ap (λ (l : List ℕ). getD l m 0) (n .text ∙ append-snoc (written m c) 32 (n .time)) ∙ getD-at (written m c) 32 (n .time) 0 m (written-length m c)
 
   pub amount-unspaced : (getD part m 0 ≡ 32 → ⊥) → Amounts m part NoAmount
-  amount-unspaced q = Amounts.none (λ c d n. q (space-at n))
+  amount-unspaced q = λ c d n. q (space-at n)
 
   pub front-at : {c d : ℕ} (n : NamesAmount m [] part c d) → Names m [] (take m part) c
   front-at {c} n = record {
@@ -46,7 +44,7 @@ module _ (m : ℕ) (part : List ℕ) where
   }
 
   pub amount-unnamed : Patterned m (take m part) NoPattern → Amounts m part NoAmount
-  amount-unnamed (Patterned.none q) = Amounts.none (λ c d n. q c (front-at n))
+  amount-unnamed q = λ c d n. q c (front-at n)
 
   pub time-at : {c d : ℕ} (n : NamesAmount m [] part c d) → drop (m + 1) part ≡ n .time
   time-at {c} n = ap (drop (m + 1)) (n .text) ∙ drop-at (written m c ++ ascii " ") (n .time) (m + 1) (omega (arith, length-append (written m c) (ascii " "), written-length m c))
@@ -56,12 +54,12 @@ module _ (m : ℕ) (part : List ℕ) where
   time-lent = take-all (length part - (m + 1)) (drop (m + 1) part) (omega (arith, length-drop (m + 1) part))
 
   pub amount-untimed : {p : ℕ} → Reads Readable (take (length part - (m + 1)) (drop (m + 1) part)) (Fault p) → Amounts m part NoAmount
-  amount-untimed (fault q x) = Amounts.none (λ c d n. q d (subst (λ (t : List ℕ). Readable t d) (sym (time-lent ∙ time-at n)) (n .readable)))
+  amount-untimed (fault q x) = λ c d n. q d (subst (λ (t : List ℕ). Readable t d) (sym (time-lent ∙ time-at n)) (n .readable))
 
   pub amount-read : {c d : ℕ} → m < length part → getD part m 0 ≡ 32 → Patterned m (take m part) (Combination c)
       → Reads Readable (take (length part - (m + 1)) (drop (m + 1) part)) (Value d) → Amounts m part (Seconds c d)
-  amount-read {c} {d} h s (combination n) (value r) =
-      seconds (record {
+  amount-read {c} {d} h s n (value r) =
+      record {
         small = n .small;
         time = drop (m + 1) part;
         readable = subst (λ (t : List ℕ). Readable t d) time-lent r;
@@ -71,7 +69,7 @@ module _ (m : ℕ) (part : List ℕ) where
             ∙ ap (λ (x : ℕ). take m part ++ x ∷ drop (m + 1) part) s
             ∙ ap (λ (l : List ℕ). l ++ 32 ∷ drop (m + 1) part) (n .text)
             ∙ sym (append-snoc (written m c) 32 (drop (m + 1) part));
-      })
+      }
 
 -- verbs: their words, and the verb that a first letter stands for
 
@@ -177,33 +175,9 @@ module _ {m : ℕ} {line : List ℕ} where
 pub asked-nothing : (m : ℕ) (line : List ℕ) → ((v : Verb) → Begins (word v) line → ⊥) → Asked m line Unreadable
 asked-nothing m line n = nothing (λ o s. let a = apart s in n (a .verb) (a .part, a .text))
 
--- what a part reads as settles what it says
+-- a part that is not what its verb asks for says nothing
 
 module _ {m : ℕ} {part : List ℕ} where
-  pub named : {p : Pattern} {c : ℕ} → Patterned m part p → p ≡ Combination c → Names m [] part c
-  named {c = c} w e = go (subst (Patterned m part) e w)
-    where
-      go : Patterned m part (Combination c) → Names m [] part c
-      go (combination n) = n
-
-  pub unnamed : {p : Pattern} → Patterned m part p → p ≡ NoPattern → (c : ℕ) → Names m [] part c → ⊥
-  unnamed w e = go (subst (Patterned m part) e w)
-    where
-      go : Patterned m part NoPattern → (c : ℕ) → Names m [] part c → ⊥
-      go (Patterned.none q) = q
-
-  pub amounted : {a : Amount} {c d : ℕ} → Amounts m part a → a ≡ Seconds c d → NamesAmount m [] part c d
-  amounted {c = c} {d = d} w e = go (subst (Amounts m part) e w)
-    where
-      go : Amounts m part (Seconds c d) → NamesAmount m [] part c d
-      go (seconds n) = n
-
-  pub unamounted : {a : Amount} → Amounts m part a → a ≡ NoAmount → (c d : ℕ) → NamesAmount m [] part c d → ⊥
-  unamounted w e = go (subst (Amounts m part) e w)
-    where
-      go : Amounts m part NoAmount → (c d : ℕ) → NamesAmount m [] part c d → ⊥
-      go (Amounts.none q) = q
-
   pub enter-unsaid : ((c : ℕ) → Names m [] part c → ⊥) → (o : Order) → Part m enter part o → ⊥
   enter-unsaid q o (enters n) = q _ n
 

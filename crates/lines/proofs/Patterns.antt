@@ -10,7 +10,7 @@ use lib.Seq.{take-at, getD-at, drop-cons}
 use Rattle.ground.proofs.Cases.{below-or, mark}
 use Rattle.lines.specs.declared.Pattern.the-variants.{Combination, NoPattern}
 use Rattle.lines.specs.Words.{written}
-use Rattle.lines.specs.Parts.{Patterned, combination}
+use Rattle.lines.specs.Parts.{Patterned}
 
 pub written-length : (m c : ℕ) → length (written m c) ≡ m
 unfolding written
@@ -80,14 +80,14 @@ tail-more part m i n d t h l k e =
 
 module _ (m : ℕ) (part : List ℕ) where
   pub pattern-long : (length part ≡ m → ⊥) → Patterned m part NoPattern
-  pattern-long n = Patterned.none (λ c w. n (ap length (w .text) ∙ written-length m c))
+  pattern-long n = λ c w. n (ap length (w .text) ∙ written-length m c)
 
   pub pattern-other : (i : ℕ) → i < m → ((48 ≤ getD part i 0) × (getD part i 0 ≤ 49) → ⊥) → Patterned m part NoPattern
   pattern-other i h n =
-      Patterned.none (λ c w.
+      λ c w.
       let e : getD part i 0 ≡ getD (written m c) i 0 = ap (λ (l : List ℕ). getD l i 0) (w .text) in
       let b = written-byte m c i h in
-      n (omega arith, omega arith))
+      n (omega arith, omega arith)
 
   pub pattern-read : (n : ℕ) → Tail part m m n → Patterned m part (Combination n)
-  pattern-read n t = let z : 0 ≡ m - m = omega arith in combination (record { small = t .small; text = ap (λ (j : ℕ). drop j part) z ∙ t .text })
+  pattern-read n t = let z : 0 ≡ m - m = omega arith in record { small = t .small; text = ap (λ (j : ℕ). drop j part) z ∙ t .text }

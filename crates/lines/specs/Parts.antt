@@ -7,10 +7,12 @@ use Rattle.lines.specs.declared.Pattern.the-variants.{Combination, NoPat
 use Rattle.lines.specs.declared.Amount.{Amount}
 use Rattle.lines.specs.declared.Amount.the-variants.{Seconds, NoAmount}
 
-pub data Patterned (m : ℕ) (part : List ℕ) : Pattern → Type 0 where
-  combination : {c : ℕ} → Names m [] part c → Patterned m part (Combination c)
-  none : ((c : ℕ) → Names m [] part c → ⊥) → Patterned m part NoPattern
+-- P, or nothing that is P
+abbrev pub Patterned : ℕ → List ℕ → Pattern → Type 0
+Patterned m part (Combination c) = Names m [] part c
+Patterned m part NoPattern = (c : ℕ) → Names m [] part c → ⊥
 
-pub data Amounts (m : ℕ) (part : List ℕ) : Amount → Type 0 where
-  seconds : {c d : ℕ} → NamesAmount m [] part c d → Amounts m part (Seconds c d)
-  none : ((c d : ℕ) → NamesAmount m [] part c d → ⊥) → Amounts m part NoAmount
+-- P, one space and T, or nothing that is so
+abbrev pub Amounts : ℕ → List ℕ → Amount → Type 0
+Amounts m part (Seconds c d) = NamesAmount m [] part c d
+Amounts m part NoAmount = (c d : ℕ) → NamesAmount m [] part c d → ⊥

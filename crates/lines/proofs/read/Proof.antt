@@ -1,7 +1,7 @@
 -- A verb that the line begins with settles it by what its part reads as; where it has none it says nothing.
 use mathlib.Core.Path.{refl}
 use borrow.Author.Needs.{needs}
-use Rattle.lines.proofs.Orders.{Verb, enter, leave, receive, withdraw, end, word, enters, leaves, receives, withdraws, named, unnamed, amounted, unamounted, enter-unsaid, leave-unsaid, receive-unsaid, withdraw-unsaid, asked-said, asked-unsaid, asked-end, asked-more, asked-nothing}
+use Rattle.lines.proofs.Orders.{Verb, enter, leave, receive, withdraw, end, word, enters, leaves, receives, withdraws, enter-unsaid, leave-unsaid, receive-unsaid, withdraw-unsaid, asked-said, asked-unsaid, asked-end, asked-more, asked-nothing}
 use Rattle.lines.proofs.Verbs.{begun-long, behind}
 use Rattle.ground.specs.Texts.{ascii, Begins}
 use Rattle.ground.proofs.Cases.{denied}
@@ -55,10 +55,10 @@ enum-told : tie.Need-enum-told
 enum-told c = search needs
 
 returns : tie.Need-returns
-returns c = asked-unsaid enter _ (behind (ascii "in ") _ 3 (begun1 (c .before .before .before .before)) refl) (enter-unsaid (unnamed (c .before .before .read-pattern .ensures) (c .enum-told .given .1)))
+returns c = asked-unsaid enter _ (behind (ascii "in ") _ 3 (begun1 (c .before .before .before .before)) refl) (enter-unsaid (rw (c .enum-told .given .1) at (c .before .before .read-pattern .ensures)))
 
 returns-2 : tie.Need-returns-2
-returns-2 c = asked-said enter (behind (ascii "in ") _ 3 (begun1 (c .before .before .before .before .before)) refl) (enters (named (c .before .before .before .read-pattern .ensures) (c .before .p .given .1)))
+returns-2 c = asked-said enter (behind (ascii "in ") _ 3 (begun1 (c .before .before .before .before .before)) refl) (enters (rw (c .before .p .given .1) at (c .before .before .before .read-pattern .ensures)))
 
 slice-aggregate-begins-2 : tie.Need-slice-aggregate-begins-2
 slice-aggregate-begins-2 c = search needs
@@ -85,10 +85,10 @@ enum-told-2 : tie.Need-enum-told-2
 enum-told-2 c = search needs
 
 returns-3 : tie.Need-returns-3
-returns-3 c = asked-unsaid leave _ (behind (ascii "out ") _ 4 (begun2 (c .before .before .before .before)) refl) (leave-unsaid (unnamed (c .before .before .read-pattern2 .ensures) (c .enum-told2 .given .1)))
+returns-3 c = asked-unsaid leave _ (behind (ascii "out ") _ 4 (begun2 (c .before .before .before .before)) refl) (leave-unsaid (rw (c .enum-told2 .given .1) at (c .before .before .read-pattern2 .ensures)))
 
 returns-4 : tie.Need-returns-4
-returns-4 c = asked-said leave (behind (ascii "out ") _ 4 (begun2 (c .before .before .before .before .before)) refl) (leaves (named (c .before .before .before .read-pattern2 .ensures) (c .before .p2 .given .1)))
+returns-4 c = asked-said leave (behind (ascii "out ") _ 4 (begun2 (c .before .before .before .before .before)) refl) (leaves (rw (c .before .p2 .given .1) at (c .before .before .before .read-pattern2 .ensures)))
 
 slice-aggregate-begins-3 : tie.Need-slice-aggregate-begins-3
 slice-aggregate-begins-3 c = search needs
@@ -115,10 +115,10 @@ enum-told-3 : tie.Need-enum-told-3
 enum-told-3 c = search needs
 
 returns-5 : tie.Need-returns-5
-returns-5 c = asked-unsaid receive _ (behind (ascii "recv ") _ 5 (begun3 (c .before .before .before .before)) refl) (receive-unsaid (unamounted (c .before .before .read-amount .ensures) (c .enum-told3 .given .1)))
+returns-5 c = asked-unsaid receive _ (behind (ascii "recv ") _ 5 (begun3 (c .before .before .before .before)) refl) (receive-unsaid (rw (c .enum-told3 .given .1) at (c .before .before .read-amount .ensures)))
 
 returns-6 : tie.Need-returns-6
-returns-6 c = asked-said receive (behind (ascii "recv ") _ 5 (begun3 (c .before .before .before .before .before)) refl) (receives (amounted (c .before .before .before .read-amount .ensures) (c .before .a .given .1)))
+returns-6 c = asked-said receive (behind (ascii "recv ") _ 5 (begun3 (c .before .before .before .before .before)) refl) (receives (rw (c .before .a .given .1) at (c .before .before .before .read-amount .ensures)))
 
 slice-aggregate-begins-4 : tie.Need-slice-aggregate-begins-4
 slice-aggregate-begins-4 c = search needs
@@ -145,10 +145,10 @@ enum-told-4 : tie.Need-enum-told-4
 enum-told-4 c = search needs
 
 returns-7 : tie.Need-returns-7
-returns-7 c = asked-unsaid withdraw _ (behind (ascii "gone ") _ 5 (begun4 (c .before .before .before .before)) refl) (withdraw-unsaid (unamounted (c .before .before .read-amount2 .ensures) (c .enum-told4 .given .1)))
+returns-7 c = asked-unsaid withdraw _ (behind (ascii "gone ") _ 5 (begun4 (c .before .before .before .before)) refl) (withdraw-unsaid (rw (c .enum-told4 .given .1) at (c .before .before .read-amount2 .ensures)))
 
 returns-8 : tie.Need-returns-8
-returns-8 c = asked-said withdraw (behind (ascii "gone ") _ 5 (begun4 (c .before .before .before .before .before)) refl) (withdraws (amounted (c .before .before .before .read-amount2 .ensures) (c .before .a2 .given .1)))
+returns-8 c = asked-said withdraw (behind (ascii "gone ") _ 5 (begun4 (c .before .before .before .before .before)) refl) (withdraws (rw (c .before .a2 .given .1) at (c .before .before .before .read-amount2 .ensures)))
 
 slice-aggregate-begins-5 : tie.Need-slice-aggregate-begins-5
 slice-aggregate-begins-5 c = search needs
