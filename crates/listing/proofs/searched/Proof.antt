@@ -13,25 +13,25 @@ sought : (c : tie.After-k) → Sought (c .before .before .before .before .before
 sought c = said _ _ _ _ _ (c .before .before .before .shortest .ensures) (c .k .given .1)
 
 array-borrow-prefix-own : tie.Need-array-borrow-prefix-own
-array-borrow-prefix-own c = omega (arith, c .power2 .ensures .0, c .before .own-area .ensures, pow-le-pow-right {n = 2} (omega arith) {i = c .before .before .before .before .before .args .m} {j = 5} (omega arith))
+array-borrow-prefix-own c = omega (arith, c .power2 .ensures .0, c .before .area .ensures, pow-le-pow-right {n = 2} (omega arith) {i = c .before .before .before .before .before .args .m} {j = 5} (omega arith))
 
 slice-aggregate-shortest : tie.Need-slice-aggregate-shortest
-slice-aggregate-shortest c = simp length-take (omega (arith, c .before .power2 .ensures .0, c .before .before .own-area .ensures, pow-le-pow-right {n = 2} (omega arith) {i = c .before .before .before .before .before .before .args .m} {j = 5} (omega arith)))
+slice-aggregate-shortest c = simp length-take (omega (arith, c .before .power2 .ensures .0, c .before .before .area .ensures, pow-le-pow-right {n = 2} (omega arith) {i = c .before .before .before .before .before .before .args .m} {j = 5} (omega arith)))
 
 shortest-requires : tie.Need-shortest-requires
-shortest-requires c κs = (c .before .before .before .before .before .before .pre .0, c .before .before .before .class-bits .ensures .0, simp length-take (omega (arith, c .before .power2 .ensures .0, c .before .before .own-area .ensures, pow-le-pow-right {n = 2} (omega arith) {i = c .before .before .before .before .before .before .args .m} {j = 5} (omega arith))))
+shortest-requires c κs = (c .before .before .before .before .before .before .pre .0, c .before .before .before .class-bits .ensures .0, simp length-take (omega (arith, c .before .power2 .ensures .0, c .before .before .area .ensures, pow-le-pow-right {n = 2} (omega arith) {i = c .before .before .before .before .before .before .args .m} {j = 5} (omega arith))))
 
 array-share-prefix-own : tie.Need-array-share-prefix-own
-array-share-prefix-own c = front-fits _ (c .before .before .before .before .before .shortest .last .1 .1 .1 .0) (drop (c .before .before .before .before .before .before .before .power2 .result) (c .before .before .before .before .before .before .before .before .own-area .result)) (sought (c .before .before) .0)
+array-share-prefix-own c = front-fits _ (c .before .before .before .before .before .shortest .last .1 .1 .1 .0) (drop (c .before .before .before .before .before .before .before .power2 .result) (c .before .before .before .before .before .before .before .before .area .result)) (sought (c .before .before) .0)
 
 slice-aggregate-put : tie.Need-slice-aggregate-put
-slice-aggregate-put c = front-size _ (c .before .before .before .before .before .before .shortest .last .1 .1 .1 .0) (drop (c .before .before .before .before .before .before .before .before .power2 .result) (c .before .before .before .before .before .before .before .before .before .own-area .result)) (sought (c .before .before .before) .0)
+slice-aggregate-put c = front-size _ (c .before .before .before .before .before .before .shortest .last .1 .1 .1 .0) (drop (c .before .before .before .before .before .before .before .before .power2 .result) (c .before .before .before .before .before .before .before .before .before .area .result)) (sought (c .before .before .before) .0)
 
 put-requires : tie.Need-put-requires
 put-requires c κs =
     let k = c .before .before .before in
     let lent = simp length-take at (c .before .before .before .before .before .before .shortest .kept .1 .1 .1 .0) in
-    omega (arith, front-size _ (c .before .before .before .before .before .before .shortest .last .1 .1 .1 .0) (drop (c .before .before .before .before .before .before .before .before .power2 .result) (c .before .before .before .before .before .before .before .before .before .own-area .result)) (sought k .0), sought k .0, lent, c .before .before .before .before .before .before .before .before .power2 .ensures .0, c .before .before .before .before .before .before .before .before .before .before .before .before .before .pre .2)
+    omega (arith, front-size _ (c .before .before .before .before .before .before .shortest .last .1 .1 .1 .0) (drop (c .before .before .before .before .before .before .before .before .power2 .result) (c .before .before .before .before .before .before .before .before .before .area .result)) (sought k .0), sought k .0, lent, c .before .before .before .before .before .before .before .before .power2 .ensures .0, c .before .before .before .before .before .before .before .before .before .before .before .before .before .pre .2)
 
 same-length : tie.Need-same-length
 same-length c = c .before .before .put .kept .0
