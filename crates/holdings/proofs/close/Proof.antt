@@ -18,11 +18,11 @@ finish-requires c κs = search needs
 array-share-prefix-out : tie.Need-array-share-prefix-out
 array-share-prefix-out c = let s = c .before .before .before .before in wrote-front (c .before .finish .ensures (s .pre .0 .0) (s .pre .0 .1) .laid) .1
 
-slice-aggregate-write-all : tie.Need-slice-aggregate-write-all
-slice-aggregate-write-all c = let s = c .before .before .before .before .before in sym (length-take-le _ _ (wrote-front (c .before .before .finish .ensures (s .pre .0 .0) (s .pre .0 .1) .laid) .1))
+slice-aggregate-send : tie.Need-slice-aggregate-send
+slice-aggregate-send c = let s = c .before .before .before .before .before in sym (length-take-le _ _ (wrote-front (c .before .before .finish .ensures (s .pre .0 .0) (s .pre .0 .1) .laid) .1))
 
-write-all-requires : tie.Need-write-all-requires
-write-all-requires c κs = search needs
+send-requires : tie.Need-send-requires
+send-requires c κs = search needs
 
 returns : tie.Need-returns
 returns c = search needs
@@ -35,6 +35,6 @@ close-spec =
     slice-aggregate-finish
     finish-requires
     array-share-prefix-out
-    slice-aggregate-write-all
-    write-all-requires
+    slice-aggregate-send
+    send-requires
     returns)

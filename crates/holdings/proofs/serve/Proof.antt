@@ -60,11 +60,11 @@ feed-requires c κs =
 array-share-prefix-out : tie.Need-array-share-prefix-out Inv-loop μ-loop
 array-share-prefix-out c = wrote-front (fed (c .before .before) .fed .laid) .1
 
-slice-aggregate-write-all : tie.Need-slice-aggregate-write-all Inv-loop μ-loop
-slice-aggregate-write-all c = sym (length-take-le _ _ (wrote-front (fed (c .before .before .before) .fed .laid) .1))
+slice-aggregate-send : tie.Need-slice-aggregate-send Inv-loop μ-loop
+slice-aggregate-send c = sym (length-take-le _ _ (wrote-front (fed (c .before .before .before) .fed .laid) .1))
 
-write-all-requires : tie.Need-write-all-requires Inv-loop μ-loop
-write-all-requires c κs = tt
+send-requires : tie.Need-send-requires Inv-loop μ-loop
+send-requires c κs = tt
 
 returns : tie.Need-returns Inv-loop μ-loop
 returns c = λ e. absurd (true≢false e)
@@ -110,8 +110,8 @@ serve-spec =
     slice-aggregate-feed
     feed-requires
     array-share-prefix-out
-    slice-aggregate-write-all
-    write-all-requires
+    slice-aggregate-send
+    send-requires
     returns
     is-over-requires
     returns-2

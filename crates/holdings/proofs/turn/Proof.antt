@@ -15,6 +15,12 @@ slice-aggregate-read c = search needs
 read-requires : tie.Need-read-requires
 read-requires c κs = search needs
 
+slice-aggregate-write-all : tie.Need-slice-aggregate-write-all
+slice-aggregate-write-all c = search needs
+
+write-all-requires : tie.Need-write-all-requires
+write-all-requires c κs = search needs
+
 returns : tie.Need-returns
 returns c = λ e. absurd (true≢false e)
 
@@ -55,6 +61,8 @@ turn-spec =
     buffer-requires
     slice-aggregate-read
     read-requires
+    slice-aggregate-write-all
+    write-all-requires
     returns
     slice-aggregate-count
     count-requires
