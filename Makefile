@@ -11,7 +11,7 @@
 PREFIX ?= /usr/local
 CALLS ?= 400000
 SEED ?= 1
-# 1.0.0: three lines of vault.h have it
+# the three numbers of vault.h, with dots between
 VERSION := $(shell sed -n 's/^.define VAULT_VERSION_[A-Z]* \([0-9]*\)$$/\1/p' include/vault.h | paste -s -d .)
 
 library := target/staticlib/libvault.a

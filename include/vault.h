@@ -47,7 +47,7 @@
 extern "C" {
 #endif
 
-/* The version, as three numbers and as text, "1.0.0". These three lines are its one source: Makefile and vault.pc take it from here. */
+/* The version, as three numbers and as text with dots between. The three lines are its one source: Makefile and vault.pc take it from here. */
 #define VAULT_VERSION_MAJOR 1
 #define VAULT_VERSION_MINOR 0
 #define VAULT_VERSION_PATCH 0
