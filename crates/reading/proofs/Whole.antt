@@ -19,9 +19,8 @@ use Rattle.sheet.proofs.Opening.{combinations-fit, sheet-same}
 use Rattle.stored.specs.declared.Read.{Read}
 use Rattle.stored.specs.declared.Section.the-variants.{Class, Held}
 use Rattle.stored.specs.Sections.{sections}
-use Rattle.stored.specs.Fields.{due, marks, sectionsDue, judge, good, refused, Reading}
+use Rattle.stored.specs.Fields.{Bytes, due, marks, sectionsDue, judge, good, refused, Reading}
 use Rattle.stored.specs.Answers.{readOf, Reads}
-use Rattle.stored.proofs.Numbers.{Bytes}
 use Rattle.stored.proofs.IsForm.{is-form}
 use Rattle.reading.specs.Parts.{Leads, withOwn, Before}
 use Rattle.reading.proofs.Offsets.{number-first, leads-field, faulty-at}
