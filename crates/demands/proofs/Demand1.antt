@@ -19,28 +19,28 @@ use Rattle.sheet.specs.declared.Answer.{Answer}
 use Rattle.sheet.specs.declared.Value.{Value}
 use Rattle.sheet.proofs.Answers.{open-done, open-refused}
 use Rattle.listing.specs.Listing.{Searched, Listed, Totalled}
-use Rattle.stored.specs.Fields.{Outcome, good, refused, Reading}
+use Rattle.stored.specs.Fields.{Outcome, good, refused, Reading as ReadsOutcome}
 use Rattle.stored.specs.Answers.{readOf, Reads, Writes}
 use Rattle.stored.specs.declared.Read.{Read}
 use Rattle.stored.proofs.Refusals.{refusals}
 use Rattle.times.specs.Texts.{Readable}
 use Rattle.times.specs.Answers.{readingOf, Answered}
 use Rattle.times.specs.declared.Time.{Time}
-use Rattle.times.specs.declared.Reading.{Reading as Reply-of-time}
+use Rattle.times.specs.declared.Reading.{Reading}
 use Rattle.times.specs.declared.Time.the-variants.{Value as Read-value, Fault}
-use Rattle.vault.specs.Entries.{HoldsNone, Put, Changes, Tells, Lends, Compared, KeptAt, same}
+use Rattle.vault.specs.Entries.{replied, HoldsNone, Put, Changes, Tells, Lends, Compared, KeptAt, same}
 use Rattle.vault.specs.declared.Reply.{Reply}
-use Rattle.demands.specs.Calls.{Lent, nothing, sheet, bytes, Made}
+use Rattle.demands.specs.Calls.{Lent, nothing, sheet, bytes, ofValue, ofRead, ofReading, Made}
 use Rattle.demands.specs.Demand1.{Refuses, Demand1}
 
 -- the ways an answer can be: done; refused by a number below 10 without a place; refused by 10
-done : {p v : ℕ} {a b : Lent} → p ≡ 0 → Refuses 0 p v b a
+done : {p v : ℕ} {a b : Lent} → p ≡ 0 → Refuses (record { answer = 0; place = p; value = v }) b a
 done e = record { of-table = omega arith; leaves = λ n. absurd (n refl); no-value = λ n. absurd (n refl); no-place = λ n. e }
 
-left : {n : ℕ} {l : Lent} → n ≤ 10 → Refuses n 0 0 l l
+left : {n : ℕ} {l : Lent} → n ≤ 10 → Refuses (replied n 0) l l
 left h = record { of-table = h; leaves = λ n. refl; no-value = λ n. refl; no-place = λ n. refl }
 
-placed : {p : ℕ} {l : Lent} → Refuses 10 p 0 l l
+placed : {p : ℕ} {l : Lent} → Refuses (record { answer = 10; place = p; value = 0 }) l l
 placed = record { of-table = omega arith; leaves = λ n. refl; no-value = λ n. refl; no-place = λ n. absurd (n refl) }
 
 -- opening and changing
@@ -75,7 +75,7 @@ number-le s (Withdraw c d) = amount-le mostMarks false (s .marks) (s .held) c d
 did-left : (s : Sheet) (k : Call) → (didOf mostMarks s k .number ≡ 0 → ⊥) → didOf mostMarks s k .sheet ≡ s
 did-left s k n = ap (λ (t : Bool). cond t (movedSheet (moveOf k) s) s) (ne-eqb (numberOn mostMarks s k) 0 n)
 
-did-refuses : (s : Sheet) (k : Call) → Refuses (didOf mostMarks s k .number) 0 0 (sheet s) (sheet (didOf mostMarks s k .sheet))
+did-refuses : (s : Sheet) (k : Call) → Refuses (replied (didOf mostMarks s k .number) 0) (sheet s) (sheet (didOf mostMarks s k .sheet))
 did-refuses s k = record { of-table = number-le s k; leaves = λ n. ap sheet (did-left s k n); no-value = λ n. refl; no-place = λ n. refl }
 
 open-as : (P : Answer → Type 0) (m : ℕ) → P (record { number = 0; sheet = sheetOf entries (opened m) }) → P (record { number = 1; sheet = sheetOf entries (opened 1) })
@@ -84,72 +84,72 @@ open-as P m d r = if (marksOk mostMarks m) (λ e. subst P (open-done mostMarks e
 
 -- reading off a sheet, writing it
 
-size-refuses : {s : Sheet} {v : Value} {l : Lent} → ClassSize mostMarks s v → Refuses (v .number) 0 (v .value) l l
+size-refuses : {s : Sheet} {v : Value} {l : Lent} → ClassSize mostMarks s v → Refuses (ofValue v) l l
 size-refuses (ClassSize.spoiled n) = left (omega arith)
 size-refuses (ClassSize.told w) = done refl
 
-total-refuses : {s : Sheet} {v : Value} {l : Lent} → Totalled mostMarks s v → Refuses (v .number) 0 (v .value) l l
+total-refuses : {s : Sheet} {v : Value} {l : Lent} → Totalled mostMarks s v → Refuses (ofValue v) l l
 total-refuses (Totalled.spoiled n) = left (omega arith)
 total-refuses (Totalled.told w) = done refl
 
-list-refuses : {s : Sheet} {area later : List ℕ} {v : Value} → Listed mostMarks s area v later → Refuses (v .number) 0 (v .value) (bytes area) (bytes later)
+list-refuses : {s : Sheet} {area later : List ℕ} {v : Value} → Listed mostMarks s area v later → Refuses (ofValue v) (bytes area) (bytes later)
 list-refuses (Listed.spoiled n) = left (omega arith)
 list-refuses (Listed.short w l) = left (omega arith)
 list-refuses (Listed.searched w l (Searched.none n)) = left (omega arith)
 list-refuses (Listed.searched w l (Searched.given f)) = done refl
 
-write-refuses : {s : Sheet} {out later : List ℕ} {v : Value} → Writes mostMarks s out v later → Refuses (v .number) 0 (v .value) (bytes out) (bytes later)
+write-refuses : {s : Sheet} {out later : List ℕ} {v : Value} → Writes mostMarks s out v later → Refuses (ofValue v) (bytes out) (bytes later)
 write-refuses (Writes.spoiled n) = left (omega arith)
 write-refuses (Writes.short w l) = left (omega arith)
 write-refuses (Writes.written w l) = done refl
 
 -- reading
 
-outcome-refuses : {t : List ℕ} {l : Lent} (o : Outcome) → Reading mostMarks t o → Refuses (readOf entries o .number) (readOf entries o .place) 0 l l
+outcome-refuses : {t : List ℕ} {l : Lent} (o : Outcome) → ReadsOutcome mostMarks t o → Refuses (ofRead (readOf entries o)) l l
 outcome-refuses (good r) y = done refl
 outcome-refuses {l = l} (refused k p) y =
     ⊎-elim
-    (λ (w : (k ≡ 1) × (p ≡ 0)). subst (λ (q : ℕ). Refuses k q 0 l l) (sym (w .1)) (left (omega (arith, w .0))))
-    (λ (w : k ≡ 10). subst (λ (x : ℕ). Refuses x p 0 l l) (sym w) placed)
+    (λ (w : (k ≡ 1) × (p ≡ 0)). subst (λ (q : ℕ). Refuses (record { answer = k; place = q; value = 0 }) l l) (sym (w .1)) (left (omega (arith, w .0))))
+    (λ (w : k ≡ 10). subst (λ (x : ℕ). Refuses (record { answer = x; place = p; value = 0 }) l l) (sym w) placed)
     (refusals y)
 
-read-refuses : {t : List ℕ} {a : Read} {l : Lent} → Reads mostMarks entries t a → Refuses (a .number) (a .place) 0 l l
-read-refuses {l = l} x = subst (λ (y : Read). Refuses (y .number) (y .place) 0 l l) (sym (x .is)) (outcome-refuses (x .outcome) (x .run))
+read-refuses : {t : List ℕ} {a : Read} {l : Lent} → Reads mostMarks entries t a → Refuses (ofRead a) l l
+read-refuses {l = l} x = subst (λ (y : Read). Refuses (ofRead y) l l) (sym (x .is)) (outcome-refuses (x .outcome) (x .run))
 
-time-refuses : (x : Time) {l : Lent} → Refuses (readingOf x .answer) (readingOf x .place) (readingOf x .value) l l
+time-refuses : (x : Time) {l : Lent} → Refuses (ofReading (readingOf x)) l l
 time-refuses (Read-value v) = done refl
 time-refuses (Fault p) = placed
 
-answer-refuses : {t : List ℕ} {r : Reply-of-time} {l : Lent} → Answered t r → Refuses (r .answer) (r .place) (r .value) l l
-answer-refuses {l = l} a = subst (λ (x : Reply-of-time). Refuses (x .answer) (x .place) (x .value) l l) (sym (a .is)) (time-refuses (a .time))
+answer-refuses : {t : List ℕ} {r : Reading} {l : Lent} → Answered t r → Refuses (ofReading r) l l
+answer-refuses {l = l} a = subst (λ (x : Reading). Refuses (ofReading x) l l) (sym (a .is)) (time-refuses (a .time))
 
 -- the entries for C
 
-unread-refuses : {t : List ℕ} {r : Reply} {l : Lent} → HoldsNone t r → Refuses (r .answer) (r .place) (r .value) l l
-unread-refuses {l = l} h = subst (λ (x : Reply). Refuses (x .answer) (x .place) (x .value) l l) (sym (h .reply)) (read-refuses (h .reads))
+unread-refuses : {t : List ℕ} {r : Reply} {l : Lent} → HoldsNone t r → Refuses r l l
+unread-refuses {l = l} h = subst (λ (x : Reply). Refuses x l l) (sym (h .reply)) (read-refuses (h .reads))
 
-put-refuses : (a : Answer) {out later : List ℕ} {r : Reply} → a .number ≤ 10 → Put a out r later → Refuses (r .answer) (r .place) (r .value) (bytes out) (bytes later)
+put-refuses : (a : Answer) {out later : List ℕ} {r : Reply} → a .number ≤ 10 → Put a out r later → Refuses r (bytes out) (bytes later)
 put-refuses a h (Put.refused n) = left h
 put-refuses a h (Put.written z w) = write-refuses w
 
 change-refuses : (call : Sheet → Answer) → ((s : Sheet) → call s .number ≤ 10) → {t out later : List ℕ} {r : Reply} → Changes call t out r later
-    → Refuses (r .answer) (r .place) (r .value) (bytes out) (bytes later)
+    → Refuses r (bytes out) (bytes later)
 change-refuses call h (Changes.unread u) = unread-refuses u
 change-refuses call h (Changes.called {s = s} k p) = put-refuses (call s) (h s) p
 
-tell-refuses : (call : Sheet → Value → Type 0) → ((s : Sheet) (v : Value) → call s v → Refuses (v .number) 0 (v .value) nothing nothing) → {t : List ℕ} {r : Reply}
-    → Tells call t r → Refuses (r .answer) (r .place) (r .value) nothing nothing
+tell-refuses : (call : Sheet → Value → Type 0) → ((s : Sheet) (v : Value) → call s v → Refuses (ofValue v) nothing nothing) → {t : List ℕ} {r : Reply}
+    → Tells call t r → Refuses r nothing nothing
 tell-refuses call h (Tells.unread u) = unread-refuses u
 tell-refuses call h (Tells.told k w) = h _ _ w
 
-lend-refuses : {t area later : List ℕ} {r : Reply} → Lends (Listed mostMarks) t area r later → Refuses (r .answer) (r .place) (r .value) (bytes area) (bytes later)
+lend-refuses : {t area later : List ℕ} {r : Reply} → Lends (Listed mostMarks) t area r later → Refuses r (bytes area) (bytes later)
 lend-refuses (Lends.unread u) = unread-refuses u
 lend-refuses (Lends.lent k w) = list-refuses w
 
-kept-refuses : (k : Table) (b : ℕ) (s : Sheet) (v : Value) → KeptAt k b s v → Refuses (v .number) 0 (v .value) nothing nothing
-kept-refuses k b s v e = subst (λ (x : Value). Refuses (x .number) 0 (x .value) nothing nothing) (sym e) (done refl)
+kept-refuses : (k : Table) (b : ℕ) (s : Sheet) (v : Value) → KeptAt k b s v → Refuses (ofValue v) nothing nothing
+kept-refuses k b s v e = subst (λ (x : Value). Refuses (ofValue x) nothing nothing) (sym e) (done refl)
 
-compared-refuses : {first second : List ℕ} {r : Reply} → Compared first second r → Refuses (r .answer) (r .place) (r .value) nothing nothing
+compared-refuses : {first second : List ℕ} {r : Reply} → Compared first second r → Refuses r nothing nothing
 compared-refuses (Compared.keeps n) = done refl
 compared-refuses (Compared.changes b) = done refl
 
@@ -158,8 +158,8 @@ of-refusal (good r) n = absurd (n refl)
 of-refusal (refused k p) n = refl
 
 -- EVERY CALL
-every : {number place value : ℕ} {before after : Lent} → Made number place value before after → Refuses number place value before after
-every (Made.opens m) = open-as (λ (a : Answer). Refuses (a .number) 0 0 nothing nothing) m (left (omega arith)) (left (omega arith))
+every : {r : Reply} {before after : Lent} → Made r before after → Refuses r before after
+every (Made.opens m) = open-as (λ (a : Answer). Refuses (replied (a .number) 0) nothing nothing) m (left (omega arith)) (left (omega arith))
 every (Made.did s k) = did-refuses s k
 every (Made.class-size w) = size-refuses w
 every (Made.list w) = list-refuses w
