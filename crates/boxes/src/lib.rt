@@ -32,7 +32,7 @@ pub struct Digits {
 }
 
 // x with v at mark i, where x has marks below i alone.
-fn with_mark(x: usize, i: usize, v: usize) -> usize
+pub fn with_mark(x: usize, i: usize, v: usize) -> usize
     requires { ⌜ (i < 8) × (x < 2 ^ i) × (v < 2) ⌝ }
     ensures { λ r. ⌜ (r ≡ v * 2 ^ i + x) × (r < 2 ^ (i + 1)) ⌝ }
 {

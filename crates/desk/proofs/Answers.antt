@@ -1,43 +1,61 @@
--- THE ANSWERS THAT A DESK CAN SEE: a line behind line 1 is answered by 0, 3, 4, 8, 9 or 10, and line 1 by 0, 1 or 10. A pattern of m characters is
--- always a combination, so 2 does not come.
+-- THE ANSWERS THAT A DESK CAN SEE: a line prints nothing, or the result, or a refusal by 3, 4, 8, 9 or 10, and line 1 by 1 or 10. A pattern of m
+-- characters is always a combination, so 2 does not come.
 use Prim.Native.Nat.{ℕ, _+_, _^_}
 use mathlib.Core.Path.{_≡_, refl}
 use mathlib.Core.Bool.{Bool, true, _||_}
-use mathlib.Core.List.{List}
+use mathlib.Core.List.{List, []}
 use lib.Dec.{eqb, leb}
 use borrow.Author.Tests.{lt-leb}
 use Rattle.boxes.specs.Sums.{sum}
 use Rattle.ground.proofs.Cases.{if}
 use Rattle.sheet.specs.Limits.{mostMarks, mostHeld, marksOk, amountOk}
 use Rattle.sheet.specs.Record.{Record}
-use Rattle.lines.specs.declared.Order.{Order}
+use Rattle.sheet.specs.declared.Call.{Call}
+use Rattle.histories.specs.Histories.{numberOf}
+use Rattle.machine.specs.Rows.{Row}
+use Rattle.machine.specs.Machine.{refusal, spoken}
+use Rattle.lines.specs.declared.Order.the-variants.{Make}
 use Rattle.lines.specs.declared.First.{First}
 use Rattle.lines.specs.declared.First.the-variants.{Marks, NotMarks}
-use Rattle.lines.specs.Rows.{Row}
-use Rattle.lines.specs.Words.{Says, enters, leaves, receives, withdraws, ends, said, nothing}
-use Rattle.desk.specs.Prints.{RowAsks, numberFor, firstNumber}
+use Rattle.lines.specs.Words.{Says, enters, leaves, receives, withdraws, said, RowAsks}
+use Rattle.desk.specs.Prints.{Result, firstNumber, State, first, going, Step, opens, shut, made, unread, ended}
 
-abbrev pub seen : ℕ → Bool
-seen n = eqb n 0 || eqb n 3 || eqb n 4 || eqb n 8 || eqb n 9 || eqb n 10
+-- what line k prints: nothing, the result, or a refusal by a number of these
+pub data Hears (k : ℕ) (numbers : ℕ → Bool) : List ℕ → Type 0 where
+  nothing : Hears k numbers []
+  result : {r : Record} {text : List ℕ} → Result r text → Hears k numbers text
+  refused : (a : ℕ) → numbers a ≡ true → Hears k numbers (refusal k a)
 
-says-seen : (r : Record) {line : List ℕ} {o : Order} → Says (r .marks) line o → seen (numberFor r o) ≡ true
-says-seen r (enters {c} n) = rw (lt-leb (2 ^ r .marks) c (n .small)) (if (r .class c) (λ e. rw e) (λ e. rw e))
-says-seen r (leaves {c} n) = rw (lt-leb (2 ^ r .marks) c (n .small)) (if (r .class c) (λ e. rw e) (λ e. rw e))
-says-seen r (receives {c} {d} n) =
+abbrev pub inLine1 : ℕ → Bool
+inLine1 n = eqb n 1 || eqb n 10
+
+abbrev pub inLaterLine : ℕ → Bool
+inLaterLine n = eqb n 3 || eqb n 4 || eqb n 8 || eqb n 9 || eqb n 10
+
+call-seen : (r : Record) {line : List ℕ} {c : Call} → Says (r .marks) line (Make c) → (eqb (numberOf r c) 0 || inLaterLine (numberOf r c)) ≡ true
+call-seen r (enters {c} n) = rw (lt-leb (2 ^ r .marks) c (n .small)) (if (r .class c) (λ e. rw e) (λ e. rw e))
+call-seen r (leaves {c} n) = rw (lt-leb (2 ^ r .marks) c (n .small)) (if (r .class c) (λ e. rw e) (λ e. rw e))
+call-seen r (receives {c} {d} n) =
     rw (lt-leb (2 ^ r .marks) c (n .small))
     (if (amountOk d)
     (λ e. if (leb (sum (2 ^ r .marks) (r .times) + d) mostHeld) (λ f. rw (e, f)) (λ f. rw (e, f)))
     (λ e. rw e))
-says-seen r (withdraws {c} {d} n) =
+call-seen r (withdraws {c} {d} n) =
     rw (lt-leb (2 ^ r .marks) c (n .small))
     (if (amountOk d) (λ e. if (leb d (r .times c)) (λ f. rw (e, f)) (λ f. rw (e, f))) (λ e. rw e))
-says-seen r (ends e) = refl
 
-pub line-seen : (r : Record) {row : Row} {o : Order} → RowAsks (r .marks) row o → seen (numberFor r o) ≡ true
-line-seen r (RowAsks.read (said s)) = says-seen r s
-line-seen r (RowAsks.read (nothing n)) = refl
-line-seen r RowAsks.lost = refl
+spoken-heard : (k a : ℕ) (numbers : ℕ → Bool) → (eqb a 0 || numbers a) ≡ true → Hears k numbers (spoken k a)
+spoken-heard k a numbers h = if (eqb a 0) (λ e. rw e nothing) (λ e. rw e (refused a (rw e at h)))
 
-pub first-seen : (f : First) → (eqb (firstNumber f) 0 || eqb (firstNumber f) 1 || eqb (firstNumber f) 10) ≡ true
-first-seen (Marks n) = if (marksOk mostMarks n) (λ e. rw e) (λ e. rw e)
-first-seen NotMarks = refl
+pub line-seen : {k : ℕ} {r : Record} {row : Row} {t : State} {text : List ℕ} → Step k (going r) row t text → Hears k inLaterLine text
+line-seen {k} {r} (made {c = c} (RowAsks.read (said s))) = spoken-heard k (numberOf r c) inLaterLine (call-seen r s)
+line-seen (unread w) = refused 10 refl
+line-seen (ended w t) = result t
+
+pub first-seen : {k : ℕ} {row : Row} {t : State} {text : List ℕ} → Step k first row t text → Hears k inLine1 text
+first-seen (opens w e) = nothing
+first-seen (shut {f = f} w n) = refused (firstNumber f) (go f n)
+  where
+    go : (f : First) → (firstNumber f ≡ 0 → ⊥) → inLine1 (firstNumber f) ≡ true
+    go (Marks m) n = if (marksOk mostMarks m) (λ e. absurd (n (rw e))) (λ e. rw e)
+    go NotMarks n = refl

@@ -1,8 +1,7 @@
 pub mod Texts
 pub mod Results
-pub mod States
-pub mod Pieces
-pub mod Settled
-pub mod Exists
+pub mod Outputs
+pub mod Steps
+pub mod Desks
 pub mod Answers
 pub mod Samples

@@ -15,11 +15,13 @@ use Rattle.times.specs.Texts.{Readable}
 use Rattle.print.specs.Texts.{decimal, decimalIn, clock, pattern}
 use Rattle.clock.proofs.ReadsBack.{clock-readable}
 use Rattle.sheet.specs.Limits.{marksOk, amountOk}
-use Rattle.lines.specs.Rows.{whole, rowsFrom, judged}
-use Rattle.lines.specs.declared.Order.the-variants.{Enter, Receive, Withdraw}
+use Rattle.sheet.specs.declared.Call.the-variants.{Enter, Receive, Withdraw}
+use Rattle.machine.specs.Rows.{whole, rowsFrom, judged}
+use Rattle.machine.specs.Machine.{Onward}
+use Rattle.lines.specs.declared.Order.the-variants.{Make}
 use Rattle.lines.specs.declared.First.the-variants.{Marks}
-use Rattle.lines.specs.Words.{written, enters, receives, withdraws, ends, said, marks}
-use Rattle.desk.specs.Prints.{heads, boxLine, boxLines, lastLine, page, RowAsks, RowOpens, Onward, Session, Prints}
+use Rattle.lines.specs.Words.{written, enters, receives, withdraws, ends, said, marks, RowAsks, RowOpens}
+use Rattle.desk.specs.Prints.{heads, boxLine, boxLines, lastLine, page, opens, made, ended, Stop, Prints}
 
 -- a class that was entered one combination after another
 entered : (a b c : Bool) → (a || (b || (c || false))) ≡ (((false || a) || b) || c)
@@ -53,13 +55,13 @@ time-240 : Readable (ascii "4:00") 240
 unfolding clock decimal decimalIn
 time-240 = clock-readable 240 (omega arith)
 
-enter : (c : ℕ) (line : List ℕ) → c < 4 → line ≡ ascii "in " ++ written 2 c → RowAsks 2 (whole line) (Enter c)
+enter : (c : ℕ) (line : List ℕ) → c < 4 → line ≡ ascii "in " ++ written 2 c → RowAsks 2 (whole line) (Make (Enter c))
 enter c line h e = RowAsks.read (said (enters (record { small = h; text = e })))
 
-receive : (c d : ℕ) (line time : List ℕ) → c < 4 → Readable time d → line ≡ ascii "recv " ++ written 2 c ++ ascii " " ++ time → RowAsks 2 (whole line) (Receive c d)
+receive : (c d : ℕ) (line time : List ℕ) → c < 4 → Readable time d → line ≡ ascii "recv " ++ written 2 c ++ ascii " " ++ time → RowAsks 2 (whole line) (Make (Receive c d))
 receive c d line time h t e = RowAsks.read (said (receives (record { small = h; time = time; readable = t; text = e })))
 
-withdraw : (c d : ℕ) (line time : List ℕ) → c < 4 → Readable time d → line ≡ ascii "gone " ++ written 2 c ++ ascii " " ++ time → RowAsks 2 (whole line) (Withdraw c d)
+withdraw : (c d : ℕ) (line time : List ℕ) → c < 4 → Readable time d → line ≡ ascii "gone " ++ written 2 c ++ ascii " " ++ time → RowAsks 2 (whole line) (Make (Withdraw c d))
 withdraw c d line time h t e = RowAsks.read (said (withdraws (record { small = h; time = time; readable = t; text = e })))
 
 abbrev printed : List ℕ
@@ -68,12 +70,12 @@ printed = ascii "class 3\nlines 2\n01 2:30\n1- 10:00\ntotal 12:30\n"
 pub sample : Prints (ascii "marks 2\nin 01\nin 10\nin 11\nrecv 11 10:05\nrecv 01 2:30\ngone 11 0:05\nrecv 00 4:00\nend\n") printed
 unfolding rowsFrom judged written marksOk amountOk sum class page heads boxLine boxLines lastLine decimal decimalIn clock pattern sumIn contains agrees
 sample =
-    Session.opens {f = Marks 2} (RowOpens.read (marks {n = 2} (omega arith, refl))) refl
-    (Onward.next {text = printed} {o = Enter 1} (enter 1 (ascii "in 01") (omega arith) refl) refl
-    (Onward.next {text = printed} {o = Enter 2} (enter 2 (ascii "in 10") (omega arith) refl) refl
-    (Onward.next {text = printed} {o = Enter 3} (enter 3 (ascii "in 11") (omega arith) refl) refl
-    (Onward.next {text = printed} {o = Receive 3 605} (receive 3 605 (ascii "recv 11 10:05") (ascii "10:05") (omega arith) time-605 refl) refl
-    (Onward.next {text = printed} {o = Receive 1 150} (receive 1 150 (ascii "recv 01 2:30") (ascii "2:30") (omega arith) time-150 refl) refl
-    (Onward.next {text = printed} {o = Withdraw 3 5} (withdraw 3 5 (ascii "gone 11 0:05") (ascii "0:05") (omega arith) time-5 refl) refl
-    (Onward.next {text = printed} {o = Receive 0 240} (receive 0 240 (ascii "recv 00 4:00") (ascii "4:00") (omega arith) time-240 refl) refl
-    (Onward.ended (RowAsks.read (said (ends refl))) (record { list = 1 ∷ 5 ∷ []; first = list; is = refl })))))))))
+    Onward.line {now = []} (opens {f = Marks 2} (RowOpens.read (marks {n = 2} (omega arith, refl))) refl)
+    (Onward.line {now = []} (made {c = Enter 1} (enter 1 (ascii "in 01") (omega arith) refl))
+    (Onward.line {now = []} (made {c = Enter 2} (enter 2 (ascii "in 10") (omega arith) refl))
+    (Onward.line {now = []} (made {c = Enter 3} (enter 3 (ascii "in 11") (omega arith) refl))
+    (Onward.line {now = []} (made {c = Receive 3 605} (receive 3 605 (ascii "recv 11 10:05") (ascii "10:05") (omega arith) time-605 refl))
+    (Onward.line {now = []} (made {c = Receive 1 150} (receive 1 150 (ascii "recv 01 2:30") (ascii "2:30") (omega arith) time-150 refl))
+    (Onward.line {now = []} (made {c = Withdraw 3 5} (withdraw 3 5 (ascii "gone 11 0:05") (ascii "0:05") (omega arith) time-5 refl))
+    (Onward.line {now = []} (made {c = Receive 0 240} (receive 0 240 (ascii "recv 00 4:00") (ascii "4:00") (omega arith) time-240 refl))
+    (Onward.line {now = printed} (ended (RowAsks.read (said (ends refl))) (record { list = 1 ∷ 5 ∷ []; first = list; is = refl })) (Onward.stopped Stop.silent)))))))))

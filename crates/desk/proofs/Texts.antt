@@ -1,5 +1,5 @@
--- What is printed, laid piece by piece, and how long it is.
-use Prim.Native.Nat.{ℕ, zero, suc, _+_, _*_, _^_, _≤_, _<_}
+-- The texts of the result: how long they are, and the lines one more at a time.
+use Prim.Native.Nat.{ℕ, zero, suc, _+_, _^_, _≤_, _<_}
 use mathlib.Core.Path.{_≡_, refl, sym, ap, _∙_}
 use mathlib.Core.List.{List, [], _∷_, _++_, append-assoc, append-nil}
 use native.Mathlib.Numerals.{add-one}
@@ -8,42 +8,12 @@ use lib.ListN.{length, getD, take, length-append}
 use lib.Seq.{take-suc}
 use Rattle.lists.specs.Lists.{Boxes}
 use Rattle.ground.specs.Texts.{ascii}
+use Rattle.sheet.specs.Limits.{mostMarks}
 use Rattle.print.specs.Texts.{decimal, clock, pattern}
-use Rattle.ground.specs.Areas.{Wrote}
-use Rattle.ground.proofs.Areas.{wrote-then}
 use Rattle.print.proofs.Digits.{number-room, time-room, pattern-length}
-use Rattle.desk.specs.Prints.{refusal, heads, boxLine, boxLines, lastLine}
-
--- pieces one behind the other
-
-pub wrote-three : {out o₁ o₂ o₃ : List ℕ} {at r₁ r₂ r₃ : ℕ} {a b c : List ℕ} → Wrote out at a r₁ o₁ → Wrote o₁ r₁ b r₂ o₂ → Wrote o₂ r₂ c r₃ o₃
-    → at + length a + length b + length c ≤ length out → Wrote out at (a ++ b ++ c) r₃ o₃
-wrote-three {a = a} {b = b} p q r h = wrote-then (wrote-then p q (omega arith)) r (omega (arith, length-append a b))
-
-pub wrote-four : {out o₁ o₂ o₃ o₄ : List ℕ} {at r₁ r₂ r₃ r₄ : ℕ} {a b c d : List ℕ} → Wrote out at a r₁ o₁ → Wrote o₁ r₁ b r₂ o₂ → Wrote o₂ r₂ c r₃ o₃
-    → Wrote o₃ r₃ d r₄ o₄ → at + length a + length b + length c + length d ≤ length out → Wrote out at (a ++ b ++ c ++ d) r₄ o₄
-wrote-four {a = a} {b = b} {c = c} p q r s h =
-    wrote-then (wrote-three p q r (omega arith)) s (omega (arith, length-append a b, length-append (a ++ b) c))
-
-pub wrote-five : {out o₁ o₂ o₃ o₄ o₅ : List ℕ} {at r₁ r₂ r₃ r₄ r₅ : ℕ} {a b c d e : List ℕ} → Wrote out at a r₁ o₁ → Wrote o₁ r₁ b r₂ o₂
-    → Wrote o₂ r₂ c r₃ o₃ → Wrote o₃ r₃ d r₄ o₄ → Wrote o₄ r₄ e r₅ o₅ → at + length a + length b + length c + length d + length e ≤ length out
-    → Wrote out at (a ++ b ++ c ++ d ++ e) r₅ o₅
-wrote-five {a = a} {b = b} {c = c} {d = d} p q r s t h =
-    wrote-then (wrote-four p q r s (omega arith)) t (omega (arith, length-append a b, length-append (a ++ b) c, length-append (a ++ b ++ c) d))
+use Rattle.desk.specs.Prints.{heads, boxLine, boxLines, lastLine}
 
 -- lengths
-
-pub refusal-length : (k a : ℕ) → k < 2 ^ 64 → a < 2 ^ 64 → length (refusal k a) ≤ 50
-unfolding refusal
-refusal-length k a h l =
-    omega (
-      arith,
-      number-room k h,
-      number-room a l,
-      length-append (decimal k) (ascii " "),
-      length-append (decimal k ++ ascii " ") (decimal a),
-      length-append (decimal k ++ ascii " " ++ decimal a) (10 ∷ []),
-    )
 
 pub heads-length : (x y : ℕ) → x < 2 ^ 64 → y < 2 ^ 64 → length (heads x y) ≤ 54
 unfolding heads
@@ -57,7 +27,7 @@ heads-length x y h l =
       length-append (decimal x ++ ascii "\nlines " ++ decimal y) (10 ∷ []),
     )
 
-pub line-length : (m b s : ℕ) → m ≤ 5 → s < 2 ^ 64 → length (boxLine m b s) ≤ 28
+pub line-length : (m b s : ℕ) → m ≤ mostMarks → s < 2 ^ 64 → length (boxLine m b s) ≤ 28
 unfolding boxLine
 line-length m b s h l =
     omega (
@@ -73,15 +43,9 @@ pub last-length : (s : ℕ) → s < 2 ^ 64 → length (lastLine s) ≤ 28
 unfolding lastLine
 last-length s l = omega (arith, time-room s l, length-append (clock s) (10 ∷ []))
 
-pub lines-length : (m : ℕ) (f : ℕ → ℕ) (l : List ℕ) → m ≤ 5 → ((b : ℕ) → f b < 2 ^ 64) → length (boxLines m f l) ≤ 28 * length l
-unfolding boxLines
-lines-length m f [] h g = omega arith
-lines-length m f (b ∷ l) h g =
-    omega (arith, length-append (boxLine m b (f b)) (boxLines m f l), line-length m b (f b) h (g b), lines-length m f l h g)
-
 -- the lines, one more at a time
 
-pub lines-append : (m : ℕ) (f : ℕ → ℕ) (a b : List ℕ) → boxLines m f (a ++ b) ≡ boxLines m f a ++ boxLines m f b
+lines-append : (m : ℕ) (f : ℕ → ℕ) (a b : List ℕ) → boxLines m f (a ++ b) ≡ boxLines m f a ++ boxLines m f b
 unfolding boxLines
 lines-append m f [] b = refl
 lines-append m f (x ∷ a) b =

@@ -1,10 +1,10 @@
--- What a desk session prints (01, 'Desk program'): which output bytes belong to which input bytes. Orders are carried out on the record of marks,
--- class and times; the printed list is the first shortest one.
-use Prim.Native.Nat.{ℕ, _+_}
+-- What a desk session prints (01, 'Desk program'): which output bytes belong to which input bytes. It is told line by line: what a line leads to and
+-- prints at once (`Step`), and what the end of the input prints (`Stop`); machine/specs/Machine puts these together. Calls are made on the record of
+-- marks, class and times; the printed list is the first shortest one.
+use Prim.Native.Nat.{ℕ}
 use mathlib.Core.Path.{_≡_}
-use mathlib.Core.Bool.{Bool, true, false, cond}
+use mathlib.Core.Bool.{cond}
 use mathlib.Core.List.{List, [], _∷_, _++_}
-use lib.Dec.{eqb}
 use lib.ListN.{length}
 use Rattle.boxes.specs.Boxes.{sumIn}
 use Rattle.lists.specs.Lists.{FirstShortest}
@@ -13,25 +13,17 @@ use Rattle.print.specs.Texts.{decimal, clock, pattern}
 use Rattle.sheet.specs.Limits.{mostMarks, marksOk}
 use Rattle.sheet.specs.Record.{Record, opened}
 use Rattle.sheet.specs.Sound.{sizeOf}
+use Rattle.sheet.specs.declared.Call.{Call}
 use Rattle.listing.specs.Listing.{totalOf}
-use Rattle.sheet.specs.declared.Call.the-variants as call
 use Rattle.histories.specs.Histories.{numberOf, after}
-use Rattle.lines.specs.declared.Order.{Order}
-use Rattle.lines.specs.declared.Order.the-variants.{Enter, Leave, Receive, Withdraw, End, Unreadable}
+use Rattle.machine.specs.Rows.{Row}
+use Rattle.machine.specs.Machine.{Machine, Output, refusal, spoken}
+use Rattle.lines.specs.declared.Order.the-variants.{Make, End, Unreadable}
 use Rattle.lines.specs.declared.First.{First}
 use Rattle.lines.specs.declared.First.the-variants.{Marks, NotMarks}
-use Rattle.lines.specs.Words.{Asked, Opens}
-use Rattle.lines.specs.Rows.{Row, whole, spoiled, rows}
+use Rattle.lines.specs.Words.{RowAsks, RowOpens}
 
 -- texts
-
--- `refused K A`, ended by a newline
-unfoldable pub refusal : ℕ → ℕ → List ℕ
-refusal k a = ascii "refused " ++ decimal k ++ ascii " " ++ decimal a ++ ascii "\n"
-
--- printed only if the answer is not 0
-abbrev pub spoken : ℕ → ℕ → List ℕ
-spoken k a = cond (eqb a 0) [] (refusal k a)
 
 -- class size and number of lines
 unfoldable pub heads : ℕ → ℕ → List ℕ
@@ -62,15 +54,6 @@ pub record Result (r : Record) (text : List ℕ) : Type 0 where
 
 -- lines
 
--- what a line asks for; one that cannot be read, because it is too long or not ended, is unreadable
-pub data RowAsks (m : ℕ) : Row → Order → Type 0 where
-  read : {line : List ℕ} {o : Order} → Asked m line o → RowAsks m (whole line) o
-  lost : RowAsks m spoiled Unreadable
-
-pub data RowOpens : Row → First → Type 0 where
-  read : {line : List ℕ} {f : First} → Opens line f → RowOpens (whole line) f
-  lost : RowOpens spoiled NotMarks
-
 -- line 1: 10 for what isn't `marks` and one digit, 1 for marks not 1 to 5; and the record that it opens
 abbrev pub firstNumber : First → ℕ
 firstNumber (Marks n) = cond (marksOk mostMarks n) 0 1
@@ -80,45 +63,33 @@ abbrev pub firstRecord : First → Record
 firstRecord (Marks n) = cond (marksOk mostMarks n) (opened n) (opened 1)
 firstRecord NotMarks = opened 1
 
--- a later line: its answer, and the record after it
-abbrev pub numberFor : Record → Order → ℕ
-numberFor r (Enter c) = numberOf r (call.Enter c)
-numberFor r (Leave c) = numberOf r (call.Leave c)
-numberFor r (Receive c d) = numberOf r (call.Receive c d)
-numberFor r (Withdraw c d) = numberOf r (call.Withdraw c d)
-numberFor r End = 0
-numberFor r Unreadable = 10
+-- where a session stands: in front of line 1, behind it with a record, or over with the record that it ended with
+pub data State : Type 0 where
+  first : State
+  going : Record → State
+  over : Record → State
 
-abbrev pub recordFor : Record → Order → Record
-recordFor r (Enter c) = after r (call.Enter c)
-recordFor r (Leave c) = after r (call.Leave c)
-recordFor r (Receive c d) = after r (call.Receive c d)
-recordFor r (Withdraw c d) = after r (call.Withdraw c d)
-recordFor r End = r
-recordFor r Unreadable = r
+-- line k: the state behind it, and what is printed at once
+pub data Step (k : ℕ) : State → Row → State → List ℕ → Type 0 where
+  -- line 1 opens a sheet; if it is refused nothing else is printed
+  opens : {row : Row} {f : First} → RowOpens row f → firstNumber f ≡ 0 → Step k first row (going (firstRecord f)) []
+  shut : {row : Row} {f : First} → RowOpens row f → (firstNumber f ≡ 0 → ⊥) → Step k first row (over (firstRecord f)) (refusal k (firstNumber f))
+  -- a later line makes a call, cannot be read, or is `end`, and the result is printed
+  made : {r : Record} {row : Row} {c : Call} → RowAsks (r .marks) row (Make c) → Step k (going r) row (going (after r c)) (spoken k (numberOf r c))
+  unread : {r : Record} {row : Row} → RowAsks (r .marks) row Unreadable → Step k (going r) row (going r) (refusal k 10)
+  ended : {r : Record} {row : Row} {text : List ℕ} → RowAsks (r .marks) row End → Result r text → Step k (going r) row (over r) text
+  -- nothing is printed when it is over
+  silent : {r : Record} {row : Row} → Step k (over r) row (over r) []
 
-abbrev pub isEnd : Order → Bool
-isEnd (Enter c) = false
-isEnd (Leave c) = false
-isEnd (Receive c d) = false
-isEnd (Withdraw c d) = false
-isEnd End = true
-isEnd Unreadable = false
+-- the end of the input: empty input prints nothing, else the result is printed
+pub data Stop : State → List ℕ → Type 0 where
+  empty : Stop first []
+  result : {r : Record} {text : List ℕ} → Result r text → Stop (going r) text
+  silent : {r : Record} → Stop (over r) []
 
--- from line k on, with the record r: `end` or the end of input stops it, and the result is printed
-pub data Onward : ℕ → Record → List Row → List ℕ → Type 0 where
-  stopped : {k : ℕ} {r : Record} {text : List ℕ} → Result r text → Onward k r [] text
-  ended : {k : ℕ} {r : Record} {row : Row} {rest : List Row} {text : List ℕ} → RowAsks (r .marks) row End → Result r text → Onward k r (row ∷ rest) text
-  next : {k : ℕ} {r : Record} {row : Row} {rest : List Row} {text : List ℕ} {o : Order} → RowAsks (r .marks) row o → isEnd o ≡ false
-      → Onward (k + 1) (recordFor r o) rest text → Onward k r (row ∷ rest) (spoken k (numberFor r o) ++ text)
-
--- from line 1 on: empty input prints nothing, and if line 1 is refused nothing else is printed
-pub data Session : List Row → List ℕ → Type 0 where
-  empty : Session [] []
-  opens : {row : Row} {rest : List Row} {text : List ℕ} {f : First} → RowOpens row f → firstNumber f ≡ 0 → Onward 2 (firstRecord f) rest text
-      → Session (row ∷ rest) text
-  shut : {row : Row} {rest : List Row} {f : First} → RowOpens row f → (firstNumber f ≡ 0 → ⊥) → Session (row ∷ rest) (refusal 1 (firstNumber f))
+abbrev pub holdings : Machine
+holdings = record { State = State; start = first; step = Step; stop = Stop }
 
 -- THE OUTPUT OF AN INPUT
 abbrev pub Prints : List ℕ → List ℕ → Type 0
-Prints input output = Session (rows input) output
+Prints input output = Output holdings input output

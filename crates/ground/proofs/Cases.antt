@@ -4,8 +4,8 @@ use mathlib.Core.Bool.{Bool, true, false, _&&_, true≢false}
 use mathlib.Core.Path.{_≡_, refl, sym, _∙_}
 use native.Mathlib.Omega.{arith}
 use Rattle.ground.specs.Decides.{Decides}
-use lib.Dec.{eqb, leb, ltb}
-use borrow.Author.Tests.{ltb-true, ltb-false, leb-true, le-leb, lt-leb, eqb-true, eqb-false, eq-eqb, ne-eqb}
+use lib.Dec.{eqb, ltb}
+use borrow.Author.Tests.{ltb-true, ltb-false, eqb-true, eqb-false, eq-eqb, ne-eqb}
 
 pub if : {P : Type 0} (t : Bool) → (t ≡ true → P) → (t ≡ false → P) → P
 if true yes-then no-then = yes-then refl
@@ -53,13 +53,6 @@ pub and-right : (x y : Bool) → (x && y) ≡ true → y ≡ true
 and-right true y e = e
 and-right false true e = refl
 and-right false false e = e
-
--- two tests of order that say the same
-pub leb-same : (a b c d : ℕ) → (a ≤ b → c ≤ d) → (c ≤ d → a ≤ b) → leb a b ≡ leb c d
-leb-same a b c d to from =
-    if (leb c d)
-    (λ e. le-leb a b (from (leb-true c d e)) ∙ sym e)
-    (λ e. below-or b a (λ l. lt-leb a b l ∙ sym e) (λ l. clash (le-leb c d (to l)) e))
 
 -- numbers are equal exactly if their halves and their low bits are
 pub eqb-pair : (x y u v : ℕ) → u < 2 → v < 2 → eqb (x * 2 + u) (y * 2 + v) ≡ (eqb u v && eqb x y)

@@ -27,21 +27,21 @@ use Rattle.listing.specs.Listing.{totalOf, Searched, Listed, Totalled}
 use Rattle.histories.specs.Histories.{Good, Given}
 
 module _ (r : Record) (good : Good r) where
-  room : 3 ^ r .marks ≤ 243
+  room : 3 ^ r .marks ≤ entries
   room = boxes-fit (r .marks) (good .marks)
 
   -- each kept number below 3^m is the sum over the box, worked out from the record; above it is 0
 
   pub outside-afresh : (b : ℕ) → b < 3 ^ r .marks → entry (sheetOf entries r .outside) b ≡ sumIn (r .marks) b (outOf (r .class))
-  outside-afresh b l = afresh-entry 243 (r .marks) (outOf (r .class)) b (omega (arith, room))
+  outside-afresh b l = afresh-entry entries (r .marks) (outOf (r .class)) b (omega (arith, room))
 
   pub held-afresh : (b : ℕ) → b < 3 ^ r .marks → entry (sheetOf entries r .held) b ≡ sumIn (r .marks) b (r .times)
-  held-afresh b l = afresh-entry 243 (r .marks) (r .times) b (omega (arith, room))
+  held-afresh b l = afresh-entry entries (r .marks) (r .times) b (omega (arith, room))
 
-  pub above-zero : (b : ℕ) → 3 ^ r .marks ≤ b → b < 243 → (entry (sheetOf entries r .outside) b ≡ 0) × (entry (sheetOf entries r .held) b ≡ 0)
+  pub above-zero : (b : ℕ) → 3 ^ r .marks ≤ b → b < entries → (entry (sheetOf entries r .outside) b ≡ 0) × (entry (sheetOf entries r .held) b ≡ 0)
   above-zero b l lb = (
-    afresh-entry 243 (r .marks) (outOf (r .class)) b lb ∙ sumIn-nothing (r .marks) b (outOf (r .class)) l,
-    afresh-entry 243 (r .marks) (r .times) b lb ∙ sumIn-nothing (r .marks) b (r .times) l,
+    afresh-entry entries (r .marks) (outOf (r .class)) b lb ∙ sumIn-nothing (r .marks) b (outOf (r .class)) l,
+    afresh-entry entries (r .marks) (r .times) b lb ∙ sumIn-nothing (r .marks) b (r .times) l,
   )
 
   -- the sheet is fit for every call, and tells the class of the record
@@ -49,8 +49,8 @@ module _ (r : Record) (good : Good r) where
   pub ready-afresh : Ready mostMarks (sheetOf entries r)
   ready-afresh = record {
     marks = good .marks;
-    class = class-sound 243 (r .marks) room (r .class);
-    times = times-sound 243 (r .marks) room (r .times) (good .times);
+    class = class-sound entries (r .marks) room (r .class);
+    times = times-sound entries (r .marks) room (r .times) (good .times);
   }
 
   class-ready : ClassReady mostMarks (sheetOf entries r)
@@ -58,12 +58,12 @@ module _ (r : Record) (good : Good r) where
 
   pub class-afresh : recordOf (sheetOf entries r) .class ≡ r .class
   class-afresh = fun-ext (λ c. below-or c (2 ^ r .marks)
-      (λ l. class-told 243 (r .marks) room (r .class) c l)
+      (λ l. class-told entries (r .marks) room (r .class) c l)
       (λ l. ap (λ (t : Bool). t && eqb (own (r .marks) (sheetOf entries r .outside) c) 0) (le-ltb c (2 ^ r .marks) l)
       ∙ if (r .class c) (λ e. absurd (omega (arith, good .class c e))) (λ e. sym e)))
 
   pub total-same : totalOf (recordOf (sheetOf entries r)) ≡ totalOf r
-  total-same = sum-ext (2 ^ r .marks) _ _ (λ c l. ap₂ (λ (p : ℕ → Bool) (t : ℕ). only (p c) t) class-afresh (afresh-own 243 (r .marks) (r .times) room c l))
+  total-same = sum-ext (2 ^ r .marks) _ _ (λ c l. ap₂ (λ (p : ℕ → Bool) (t : ℕ). only (p c) t) class-afresh (afresh-own entries (r .marks) (r .times) room c l))
 
   -- class size, total, and the list where it has room
 

@@ -100,6 +100,7 @@ stood into class c = if (class c) (λ e. rw e (stood-in into)) (λ e. rw e (stoo
     stood-in : (i : Bool) → eqb 0 (standing i) ≡ cond i true false
     stood-in true = refl
     stood-in false = refl
+
     stood-out : (i : Bool) → eqb 1 (standing i) ≡ cond i false true
     stood-out true = refl
     stood-out false = refl

@@ -25,12 +25,12 @@ use Rattle.histories.proofs.Kept.{did-kept}
 use Rattle.histories.proofs.Goods.{good-after}
 use Rattle.histories.proofs.Afresh.{ready-afresh}
 
-pub five : 3 ^ 5 ≤ 243
+pub five : 3 ^ 5 ≤ entries
 five = omega arith
 
 -- the form that is written is the record's
 pub form-kept : (r : Record) → Good r → form (recordOf (sheetOf entries r)) ≡ form r
-form-kept r g = form-same (told-agrees 5 243 five r (g .marks))
+form-kept r g = form-same (told-agrees 5 entries five r (g .marks))
 
 pub written-number : (r : Record) → Good r → {out later : List ℕ} {v : Value} → Writes mostMarks (sheetOf entries r) out v later
     → v .number ≡ eventNumber r (travel out)
@@ -46,7 +46,7 @@ happens-kept : (r : Record) → Good r → {e : Event} {n : ℕ} {u : Sheet} →
 happens-kept r g (changed k) = let w = did-kept r g k in (ap (λ (a : Answer). a .number) w, ap (λ (a : Answer). a .sheet) w)
 happens-kept r g (stayed w n) = (written-number r g w, refl)
 happens-kept r g (travelled {a = a} w z x) =
-    let same = travels 5 243 five (omega arith) r w z x in
+    let same = travels 5 entries five (omega arith) r w z x in
     (ap (λ (y : Read). y .number) same ∙ sym z ∙ written-number r g w, ap (λ (y : Read). y .sheet) same)
 
 good-event : (r : Record) → Good r → (e : Event) → Good (afterEvent r e)
@@ -82,7 +82,7 @@ good-read {t} {r} b x =
 pub begins : (t : List ℕ) {a : Read} → Bytes t → Reads mostMarks entries t a → a .number ≡ 0
     → (r : Record) × Reading mostMarks t (good r) × Good r × (a .sheet ≡ sheetOf entries r)
 begins t {a} b x z =
-    let w = read-good 5 243 five x z in
+    let w = read-good 5 entries five x z in
     (w .0, w .1, good-read b (w .1), ap (λ (y : Read). y .sheet) (w .2))
 
 pub good-events : (r : Record) → Good r → (es : List Event) → Good (afterAll afterEvent r es)

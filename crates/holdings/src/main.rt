@@ -6,8 +6,11 @@ ghost use mathlib.Core.Path.{_≡_};
 ghost use mathlib.Core.Bool.{false};
 ghost use Prim.Native.Nat.{_+_, _≤_, _<_, _^_};
 ghost use lib.ListN.{length};
-ghost use Rattle.desk.specs.States.{State, At, Sound, Taken};
+ghost use Rattle.machine.specs.Pieces.{Position};
+ghost use Rattle.desk.specs.Prints.{holdings};
+ghost use Rattle.desk.specs.States.{room, At, DeskStands, Took};
 
+// The desk behind what was read, and whether the program stops.
 struct Served {
     desk: Desk,
     stop: bool,
@@ -15,15 +18,16 @@ struct Served {
 
 // An output area. Made in a function of its own, so that no proof meets its zeros.
 fn room() -> [u8; Desk::ROOM]
-    ensures { λ r. ⌜ 2048 ≡ length r ⌝ }
+    ensures { λ r. ⌜ room ≡ length r ⌝ }
 {
     [0u8; Desk::ROOM]
 }
 
 // One piece of input: what a line says is written before the next line is looked at.
 fn serve(d: Desk, piece: &[u8]) -> Served
-    requires { ⌜ Sound d × (d .number + length (now piece) < 2 ^ 63) ⌝ }
-    ensures { λ r. ⌜ (r .stop ≡ false → (s : State) → At d s → Taken s (now (piece .entry)) (r .desk)) ⌝ }
+    requires { ⌜ DeskStands d ⌝ }
+    requires { ⌜ d .line .number + length (now piece) < 2 ^ 63 ⌝ }
+    ensures { λ r. ⌜ (r .stop ≡ false → (p : Position holdings) → At d p → Took p (now (piece .entry)) (r .desk)) ⌝ }
 {
     let mut desk = d;
     let mut out = room();
@@ -46,7 +50,8 @@ fn serve(d: Desk, piece: &[u8]) -> Served
 
 // The input is at its end.
 fn close(d: Desk)
-    requires { ⌜ Sound d × (d .number + 1 < 2 ^ 63) ⌝ }
+    requires { ⌜ DeskStands d ⌝ }
+    requires { ⌜ d .line .number + 1 < 2 ^ 63 ⌝ }
 {
     let mut out = room();
     let n = desk::finish(d, &mut out);
@@ -55,8 +60,9 @@ fn close(d: Desk)
 
 // One read. An error of reading ends the program.
 fn turn(d: Desk) -> Served
-    requires { ⌜ Sound d × (d .number + 4096 < 2 ^ 63) ⌝ }
-    ensures { λ r. ⌜ (r .stop ≡ false → Sound (r .desk) × (r .desk .number ≤ d .number + 4096)) ⌝ }
+    requires { ⌜ DeskStands d ⌝ }
+    requires { ⌜ d .line .number + 4096 < 2 ^ 63 ⌝ }
+    ensures { λ r. ⌜ (r .stop ≡ false → DeskStands (r .desk) × (r .desk .line .number ≤ d .line .number + 4096)) ⌝ }
 {
     let mut buf = io::buffer();
     let got = libc::read(STDIN_FILENO, &mut buf);

@@ -144,18 +144,11 @@ fn print_list(m: usize, class: &[u8], list: &[u8])
     }
 }
 
-// An area for a list.
-fn list_area() -> [u8; 32]
-    ensures { λ r. ⌜ 32 ≡ length r ⌝ }
-{
-    [0u8; 32]
-}
-
 // The list of a known sheet.
 fn known_sheet(m: usize, class: &[u8])
     requires { ⌜ m ≤ 8 ⌝ }
 {
-    let mut area = list_area();
+    let mut area = listing::area();
     let listed = listing::list(with_class(m, class), &mut area);
     let n = listed.value;
     word(b"list");
@@ -176,7 +169,7 @@ fn document() {
     let theirs = ITS_LINES;
     word(b"000");
     print_list(5, &class, &theirs);
-    let mut area = list_area();
+    let mut area = listing::area();
     let listed = listing::list(with_class(5, &class), &mut area);
     let n = listed.value;
     if n <= 32 {

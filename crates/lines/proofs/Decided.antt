@@ -1,5 +1,5 @@
 -- Every line asks for something, and line 1 says something: the readers' steps, followed to the end.
-use Prim.Native.Nat.{ℕ, zero, suc, _+_, _-_, _*_, _<_, _≤_}
+use Prim.Native.Nat.{ℕ, zero, suc, _+_, _-_, _*_, _^_, _<_, _≤_}
 use mathlib.Core.Path.{_≡_, refl, ap, subst}
 use mathlib.Core.List.{List, [], _∷_}
 use native.Mathlib.Omega.{arith}
@@ -9,24 +9,27 @@ use Rattle.times.specs.declared.Time.{Time}
 use Rattle.times.specs.declared.Time.the-variants.{Value, Fault}
 use Rattle.times.specs.declared.Lead.{Lead}
 use Rattle.times.specs.declared.Lead.the-variants.{Colon, Stop}
-use Rattle.ground.specs.Texts.{ascii}
+use Rattle.ground.specs.Texts.{ascii, Begins}
 use Rattle.times.specs.Texts.{After, Behind, Readable}
-use Rattle.ground.specs.Texts.{Begins}
 use Rattle.times.specs.Places.{ReadsAs}
 use Rattle.times.specs.Parts.{Led, moved, Follows}
 use Rattle.times.proofs.Behinds.{after-end, after-more, behind-none, behind-tens, behind-one, behind-ones, behind-two}
 use Rattle.times.proofs.Fronts.{SoFar, far-none, far-step, stop-at, colon-at, end-at, led-stop, led-on}
+use Rattle.sheet.specs.declared.Call.{Call}
+use Rattle.sheet.specs.declared.Call.the-variants.{Enter, Leave, Receive, Withdraw}
+use Rattle.machine.specs.Rows.{Row, whole, spoiled}
 use Rattle.lines.specs.declared.Order.{Order}
-use Rattle.lines.specs.declared.Order.the-variants.{End, Unreadable}
+use Rattle.lines.specs.declared.Order.the-variants.{Make, End, Unreadable}
 use Rattle.lines.specs.declared.First.{First}
 use Rattle.lines.specs.declared.First.the-variants.{Marks, NotMarks}
 use Rattle.lines.specs.declared.Pattern.{Pattern}
 use Rattle.lines.specs.declared.Pattern.the-variants.{Combination, NoPattern}
 use Rattle.lines.specs.declared.Amount.{Amount}
 use Rattle.lines.specs.declared.Amount.the-variants.{Seconds, NoAmount}
-use Rattle.lines.specs.Words.{Asked, said, ends, Opens, Patterned, Amounts, enterOf, leaveOf, receiveOf, withdrawOf}
-use Rattle.lines.proofs.Patterns.{Front, front-none, front-more, pattern-long, pattern-other, pattern-read}
-use Rattle.lines.proofs.Orders.{amount-short, amount-unspaced, amount-unnamed, amount-untimed, amount-read, asked-in, asked-out, asked-recv, asked-gone, end-alone, asked-nothing, opens-other, opens-long, opens-byte, opens-marks}
+use Rattle.lines.specs.Words.{Names, NamesAmount, Asked, Opens, RowAsks, RowOpens}
+use Rattle.lines.specs.Parts.{Patterned, Amounts}
+use Rattle.lines.proofs.Patterns.{Tail, tail-none, tail-more, pattern-long, pattern-other, pattern-read}
+use Rattle.lines.proofs.Orders.{amount-short, amount-unspaced, amount-unnamed, amount-untimed, amount-read, Verb, enter, leave, receive, withdraw, end, word, Part, enters, leaves, receives, withdraws, enter-unsaid, leave-unsaid, receive-unsaid, withdraw-unsaid, asked-said, asked-unsaid, asked-end, asked-more, asked-nothing, opens-other, opens-long, opens-byte, opens-marks}
 
 -- a line begins with a verb or does not
 begins-or : {P : Type 0} (verb line : List ℕ) → (Begins verb line → P) → ((Begins verb line → ⊥) → P) → P
@@ -87,17 +90,18 @@ time-decided t = go (led-decided t (length t) 0 0 (omega arith) far-none)
 
 -- parts behind a verb
 
-pattern-from : (m : ℕ) (part : List ℕ) (k i n : ℕ) → i + k ≡ m → length part ≡ m → Front part i n → (p : Pattern) × Patterned m part p
-pattern-from m part zero i n h e f = let q : i ≡ m = omega arith in (Combination n, pattern-read m part n e (subst (λ (x : ℕ). Front part x n) q f))
-pattern-from m part (suc k) i n h e f =
-    range-or 48 49 (getD part i 0)
-    (λ w. pattern-from m part k (i + 1) (n * 2 + (getD part i 0 - 48)) (omega arith) e
-    (front-more part i n (getD part i 0 - 48) f (omega arith) (omega (arith, w .1)) (omega (arith, w .0))))
-    (λ w. (NoPattern, pattern-other m part i (omega arith) w))
+pattern-from : (m : ℕ) (part : List ℕ) (k i n : ℕ) → i + k ≡ m → length part ≡ m → Tail part m i n → (p : Pattern) × Patterned m part p
+pattern-from m part zero i n h e t = let q : i ≡ m = omega arith in (Combination n, pattern-read m part n (subst (λ (x : ℕ). Tail part m x n) q t))
+pattern-from m part (suc k) i n h e t =
+    let x = getD part (m - 1 - i) 0 in
+    range-or 48 49 x
+    (λ w. pattern-from m part k (i + 1) ((x - 48) * 2 ^ i + n) (omega arith) e
+    (tail-more part m i n (x - 48) t (omega arith) e (omega (arith, w .1)) (omega (arith, w .0))))
+    (λ w. (NoPattern, pattern-other m part (m - 1 - i) (omega arith) w))
 
 pattern-decided : (m : ℕ) (part : List ℕ) → (p : Pattern) × Patterned m part p
 pattern-decided m part =
-    same-or (length part) m (λ e. pattern-from m part m 0 0 (omega arith) e (front-none part)) (λ e. (NoPattern, pattern-long m part e))
+    same-or (length part) m (λ e. pattern-from m part m 0 0 (omega arith) e (tail-none part m e)) (λ e. (NoPattern, pattern-long m part e))
 
 amount-decided : (m : ℕ) (part : List ℕ) → (a : Amount) × Amounts m part a
 amount-decided m part =
@@ -115,15 +119,49 @@ amount-decided m part =
 
 -- lines
 
+module _ (m : ℕ) where
+  pattern-asked : {line : List ℕ} (v : Verb) (call : ℕ → Call) → ((part : List ℕ) (c : ℕ) → Names m [] part c → Part m v part (Make (call c)))
+      → ((part : List ℕ) → ((c : ℕ) → Names m [] part c → ⊥) → (o : Order) → Part m v part o → ⊥) → Begins (word v) line → (o : Order) × Asked m line o
+  pattern-asked {line} v call says unsaid b = go (pattern-decided m (b .0))
+    where
+      go : (p : Pattern) × Patterned m (b .0) p → (o : Order) × Asked m line o
+      go (Combination c, w) = (Make (call c), asked-said v (b .1) (says (b .0) c w))
+      go (NoPattern, w) = (Unreadable, asked-unsaid v (b .0) (b .1) (unsaid (b .0) w))
+
+  amount-asked : {line : List ℕ} (v : Verb) (call : ℕ → ℕ → Call) → ((part : List ℕ) (c d : ℕ) → NamesAmount m [] part c d → Part m v part (Make (call c d)))
+      → ((part : List ℕ) → ((c d : ℕ) → NamesAmount m [] part c d → ⊥) → (o : Order) → Part m v part o → ⊥) → Begins (word v) line → (o : Order) × Asked m line o
+  amount-asked {line} v call says unsaid b = go (amount-decided m (b .0))
+    where
+      go : (a : Amount) × Amounts m (b .0) a → (o : Order) × Asked m line o
+      go (Seconds c d, w) = (Make (call c d), asked-said v (b .1) (says (b .0) c d w))
+      go (NoAmount, w) = (Unreadable, asked-unsaid v (b .0) (b .1) (unsaid (b .0) w))
+
+  verb-asked : {line : List ℕ} (v : Verb) → Begins (word v) line → (o : Order) × Asked m line o
+  verb-asked enter b = pattern-asked enter Enter (λ part c n. enters n) (λ part. enter-unsaid) b
+  verb-asked leave b = pattern-asked leave Leave (λ part c n. leaves n) (λ part. leave-unsaid) b
+  verb-asked receive b = amount-asked receive Receive (λ part c d n. receives n) (λ part. receive-unsaid) b
+  verb-asked withdraw b = amount-asked withdraw Withdraw (λ part c d n. withdraws n) (λ part. withdraw-unsaid) b
+  verb-asked {line} end b = same-or (length line) 3 (λ e. (End, asked-end b e)) (λ e. (Unreadable, asked-more b e))
+
+-- a line begins with one of the verbs or with none
+verb-or : {P : Type 0} (line : List ℕ) → ((v : Verb) → Begins (word v) line → P) → (((v : Verb) → Begins (word v) line → ⊥) → P) → P
+verb-or line good bad =
+    begins-or (word enter) line (good enter) (λ i.
+    begins-or (word leave) line (good leave) (λ o.
+    begins-or (word receive) line (good receive) (λ r.
+    begins-or (word withdraw) line (good withdraw) (λ g.
+    begins-or (word end) line (good end) (λ e. bad (none i o r g e))))))
+  where
+    none : (Begins (word enter) line → ⊥) → (Begins (word leave) line → ⊥) → (Begins (word receive) line → ⊥) → (Begins (word withdraw) line → ⊥)
+        → (Begins (word end) line → ⊥) → (v : Verb) → Begins (word v) line → ⊥
+    none i o r g e enter = i
+    none i o r g e leave = o
+    none i o r g e receive = r
+    none i o r g e withdraw = g
+    none i o r g e end = e
+
 pub asked-decided : (m : ℕ) (line : List ℕ) → (o : Order) × Asked m line o
-asked-decided m line =
-    begins-or (ascii "in ") line (λ b. let w = pattern-decided m (b .0) in (enterOf (w .0), asked-in (b .1) (w .1))) (λ i.
-    begins-or (ascii "out ") line (λ b. let w = pattern-decided m (b .0) in (leaveOf (w .0), asked-out (b .1) (w .1))) (λ o.
-    begins-or (ascii "recv ") line (λ b. let w = amount-decided m (b .0) in (receiveOf (w .0), asked-recv (b .1) (w .1))) (λ r.
-    begins-or (ascii "gone ") line (λ b. let w = amount-decided m (b .0) in (withdrawOf (w .0), asked-gone (b .1) (w .1))) (λ g.
-    begins-or (ascii "end") line
-    (λ b. same-or (length line) 3 (λ e. (End, said (ends (end-alone m line b e)))) (λ e. (Unreadable, asked-nothing m line i o r g (λ q. e (ap length q)))))
-    (λ e. (Unreadable, asked-nothing m line i o r g (λ q. e ([], q))))))))
+asked-decided m line = verb-or line (verb-asked m) (λ n. (Unreadable, asked-nothing m line n))
 
 pub opens-decided : (line : List ℕ) → (f : First) × Opens line f
 opens-decided line =
@@ -134,3 +172,11 @@ opens-decided line =
     (λ w. (NotMarks, opens-byte line w)))
     (λ h. (NotMarks, opens-long line h)))
     (λ b. (NotMarks, opens-other line b))
+
+pub row-asks-decided : (m : ℕ) (row : Row) → (o : Order) × RowAsks m row o
+row-asks-decided m (whole line) = let w = asked-decided m line in (w .0, RowAsks.read (w .1))
+row-asks-decided m spoiled = (Unreadable, RowAsks.lost)
+
+pub row-opens-decided : (row : Row) → (f : First) × RowOpens row f
+row-opens-decided (whole line) = let w = opens-decided line in (w .0, RowOpens.read (w .1))
+row-opens-decided spoiled = (NotMarks, RowOpens.lost)

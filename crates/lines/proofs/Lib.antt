@@ -3,4 +3,3 @@ pub mod Patterns
 pub mod Orders
 pub mod Settled
 pub mod Decided
-pub mod Cuts

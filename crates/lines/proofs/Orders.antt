@@ -1,89 +1,52 @@
--- A verb settles what a line can say: behind it stands what its part names or tells.
+-- A verb settles what a line can say: a line is its verb and the part behind it (`apart`), and no line begins with two verbs (`one-verb`).
 use Prim.Native.Nat.{ℕ, _+_, _-_, _<_, _≤_}
 use mathlib.Core.Path.{_≡_, refl, sym, ap, _∙_, subst}
+use mathlib.Core.Bool.{cond}
 use mathlib.Core.List.{List, [], _∷_, _++_, append-assoc}
 use native.Mathlib.Numerals.{add-one}
 use native.Mathlib.Omega.{arith}
+use lib.Dec.{eqb}
 use lib.ListN.{length, getD, take, drop, length-append, length-drop}
 use lib.Seq.{take-all, take-at, drop-at, getD-at, split-at, drop-append-seam, append-snoc}
 use Rattle.times.specs.declared.Time.the-variants.{Value, Fault}
-use Rattle.ground.specs.Texts.{ascii}
+use Rattle.ground.specs.Texts.{ascii, Begins}
 use Rattle.times.specs.Texts.{Readable}
-use Rattle.ground.specs.Texts.{Begins}
 use Rattle.times.specs.Places.{ReadsAs, value, fault}
+use Rattle.sheet.specs.declared.Call.the-variants.{Enter, Leave, Receive, Withdraw}
 use Rattle.lines.specs.declared.Order.{Order}
-use Rattle.lines.specs.declared.Order.the-variants.{Enter, Leave, Receive, Withdraw, End, Unreadable}
+use Rattle.lines.specs.declared.Order.the-variants.{Make, End, Unreadable}
 use Rattle.lines.specs.declared.First.the-variants.{Marks, NotMarks}
-use Rattle.lines.specs.declared.Pattern.{Pattern}
 use Rattle.lines.specs.declared.Pattern.the-variants.{Combination, NoPattern}
-use Rattle.lines.specs.declared.Amount.{Amount}
 use Rattle.lines.specs.declared.Amount.the-variants.{Seconds, NoAmount}
-use Rattle.lines.specs.Words.{written, Names, Tells, Says, enters, leaves, receives, withdraws, ends, Asked, said, nothing, Opens, marks, other, Patterned, combination, Amounts, seconds, enterOf, leaveOf, receiveOf, withdrawOf}
+use Rattle.lines.specs.Words.{written, Names, NamesAmount, Says, Asked, said, nothing, Opens, marks, other}
+use Rattle.lines.specs.Parts.{Patterned, Amounts}
 use Rattle.lines.proofs.Patterns.{written-length}
-
-cancel : (v a b : List ℕ) → v ++ a ≡ v ++ b → a ≡ b
-cancel v a b e = sym (drop-append-seam v a) ∙ ap (drop (length v)) e ∙ drop-append-seam v b
-
--- texts that begin otherwise
-unlike : {x y : ℕ} {a b : List ℕ} → x ∷ a ≡ y ∷ b → (x ≡ y → ⊥) → ⊥
-unlike {x} {y} {a} {b} e n = n (ap (λ (l : List ℕ). getD l 0 0) e)
-
-regroup : (verb w t : List ℕ) → verb ++ w ++ ascii " " ++ t ≡ verb ++ (w ++ ascii " " ++ t)
-regroup verb w t = simp append-assoc
-
-pub behind-verb : {m : ℕ} {line : List ℕ} (verb : List ℕ) {c d : ℕ} (n : Tells m verb line c d) → line ≡ verb ++ (written m c ++ ascii " " ++ n .time)
-behind-verb {m} verb {c} n = n .text ∙ regroup verb (written m c) (n .time)
-
--- the part behind the verb
-
-module _ {m : ℕ} {line part : List ℕ} (verb : List ℕ) (e : line ≡ verb ++ part) where
-  names-on : {c : ℕ} → Names m [] part c → Names m verb line c
-  names-on n = record { small = n .small; text = e ∙ ap (λ (l : List ℕ). verb ++ l) (n .text) }
-
-  pub names-off : {c : ℕ} → Names m verb line c → Names m [] part c
-  names-off {c} n = record { small = n .small; text = cancel verb part (written m c) (sym e ∙ n .text) }
-
-  tells-on : {c d : ℕ} → Tells m [] part c d → Tells m verb line c d
-  tells-on {c} {d} n = record {
-    small = n .small;
-    time = n .time;
-    readable = n .readable;
-    text = e ∙ ap (λ (l : List ℕ). verb ++ l) (n .text) ∙ sym (regroup verb (written m c) (n .time));
-  }
-
-  pub tells-off : {c d : ℕ} → Tells m verb line c d → Tells m [] part c d
-  tells-off {c} {d} n = record {
-    small = n .small;
-    time = n .time;
-    readable = n .readable;
-    text = cancel verb part (written m c ++ ascii " " ++ n .time) (sym e ∙ behind-verb verb n);
-  }
 
 -- P, one space and T
 
 module _ (m : ℕ) (part : List ℕ) where
   pub amount-short : length part ≤ m → Amounts m part NoAmount
   amount-short h =
-      Amounts.none (λ c d n.
-      omega (arith, ap length (n .text), written-length m c, length-append (written m c ++ ascii " ") (n .time), length-append (written m c) (ascii " ")))
+      λ c d n.
+      omega (arith, ap length (n .text), written-length m c, length-append (written m c ++ ascii " ") (n .time), length-append (written m c) (ascii " "))
 
-  space-at : {c d : ℕ} (n : Tells m [] part c d) → getD part m 0 ≡ 32
+  space-at : {c d : ℕ} (n : NamesAmount m [] part c d) → getD part m 0 ≡ 32
   space-at {c} n =
       ap (λ (l : List ℕ). getD l m 0) (n .text ∙ append-snoc (written m c) 32 (n .time)) ∙ getD-at (written m c) 32 (n .time) 0 m (written-length m c)
 
   pub amount-unspaced : (getD part m 0 ≡ 32 → ⊥) → Amounts m part NoAmount
-  amount-unspaced q = Amounts.none (λ c d n. q (space-at n))
+  amount-unspaced q = λ c d n. q (space-at n)
 
-  pub front-at : {c d : ℕ} (n : Tells m [] part c d) → Names m [] (take m part) c
+  pub front-at : {c d : ℕ} (n : NamesAmount m [] part c d) → Names m [] (take m part) c
   front-at {c} n = record {
     small = n .small;
     text = ap (take m) (n .text ∙ append-assoc (written m c) (ascii " ") (n .time)) ∙ take-at (written m c) (ascii " " ++ n .time) m (written-length m c);
   }
 
   pub amount-unnamed : Patterned m (take m part) NoPattern → Amounts m part NoAmount
-  amount-unnamed (Patterned.none q) = Amounts.none (λ c d n. q c (front-at n))
+  amount-unnamed q = λ c d n. q c (front-at n)
 
-  pub time-at : {c d : ℕ} (n : Tells m [] part c d) → drop (m + 1) part ≡ n .time
+  pub time-at : {c d : ℕ} (n : NamesAmount m [] part c d) → drop (m + 1) part ≡ n .time
   time-at {c} n = ap (drop (m + 1)) (n .text) ∙ drop-at (written m c ++ ascii " ") (n .time) (m + 1) (omega (arith, length-append (written m c) (ascii " "), written-length m c))
 
   -- the part behind the space, as it is lent
@@ -91,12 +54,12 @@ module _ (m : ℕ) (part : List ℕ) where
   time-lent = take-all (length part - (m + 1)) (drop (m + 1) part) (omega (arith, length-drop (m + 1) part))
 
   pub amount-untimed : {p : ℕ} → ReadsAs Readable (take (length part - (m + 1)) (drop (m + 1) part)) (Fault p) → Amounts m part NoAmount
-  amount-untimed (fault q x) = Amounts.none (λ c d n. q d (subst (λ (t : List ℕ). Readable t d) (sym (time-lent ∙ time-at n)) (n .readable)))
+  amount-untimed (fault q x) = λ c d n. q d (subst (λ (t : List ℕ). Readable t d) (sym (time-lent ∙ time-at n)) (n .readable))
 
   pub amount-read : {c d : ℕ} → m < length part → getD part m 0 ≡ 32 → Patterned m (take m part) (Combination c)
       → ReadsAs Readable (take (length part - (m + 1)) (drop (m + 1) part)) (Value d) → Amounts m part (Seconds c d)
-  amount-read {c} {d} h s (combination n) (value r) =
-      seconds (record {
+  amount-read {c} {d} h s n (value r) =
+      record {
         small = n .small;
         time = drop (m + 1) part;
         readable = subst (λ (t : List ℕ). Readable t d) time-lent r;
@@ -106,92 +69,141 @@ module _ (m : ℕ) (part : List ℕ) where
             ∙ ap (λ (x : ℕ). take m part ++ x ∷ drop (m + 1) part) s
             ∙ ap (λ (l : List ℕ). l ++ 32 ∷ drop (m + 1) part) (n .text)
             ∙ sym (append-snoc (written m c) 32 (drop (m + 1) part));
-      })
+      }
 
--- which verb a line has
+-- verbs: their words, and the verb that a first letter stands for
 
-module _ {m : ℕ} {line part : List ℕ} where
-  pub says-in : {o : Order} → line ≡ ascii "in " ++ part → Says m line o → (c : ℕ) × (o ≡ Enter c) × Names m [] part c
-  says-in e (enters {c} n) = (c, refl, names-off (ascii "in ") e n)
-  says-in e (leaves n) = absurd (unlike (sym e ∙ n .text) (λ q. omega arith))
-  says-in e (receives n) = absurd (unlike (sym e ∙ n .text) (λ q. omega arith))
-  says-in e (withdraws n) = absurd (unlike (sym e ∙ n .text) (λ q. omega arith))
-  says-in e (ends n) = absurd (unlike (sym e ∙ n) (λ q. omega arith))
+pub data Verb : Type 0 where
+  enter : Verb
+  leave : Verb
+  receive : Verb
+  withdraw : Verb
+  end : Verb
 
-  pub says-out : {o : Order} → line ≡ ascii "out " ++ part → Says m line o → (c : ℕ) × (o ≡ Leave c) × Names m [] part c
-  says-out e (enters n) = absurd (unlike (sym e ∙ n .text) (λ q. omega arith))
-  says-out e (leaves {c} n) = (c, refl, names-off (ascii "out ") e n)
-  says-out e (receives n) = absurd (unlike (sym e ∙ n .text) (λ q. omega arith))
-  says-out e (withdraws n) = absurd (unlike (sym e ∙ n .text) (λ q. omega arith))
-  says-out e (ends n) = absurd (unlike (sym e ∙ n) (λ q. omega arith))
+abbrev pub word : Verb → List ℕ
+word enter = ascii "in "
+word leave = ascii "out "
+word receive = ascii "recv "
+word withdraw = ascii "gone "
+word end = ascii "end"
 
-  pub says-recv : {o : Order} → line ≡ ascii "recv " ++ part → Says m line o → (c d : ℕ) × (o ≡ Receive c d) × Tells m [] part c d
-  says-recv e (enters n) = absurd (unlike (sym e ∙ n .text) (λ q. omega arith))
-  says-recv e (leaves n) = absurd (unlike (sym e ∙ n .text) (λ q. omega arith))
-  says-recv e (receives {c} {d} n) = (c, d, refl, tells-off (ascii "recv ") e n)
-  says-recv e (withdraws n) = absurd (unlike (sym e ∙ n .text) (λ q. omega arith))
-  says-recv e (ends n) = absurd (unlike (sym e ∙ n) (λ q. omega arith))
+verbOf : ℕ → Verb
+verbOf x = cond (eqb x 105) enter (cond (eqb x 111) leave (cond (eqb x 114) receive (cond (eqb x 103) withdraw end)))
 
-  pub says-gone : {o : Order} → line ≡ ascii "gone " ++ part → Says m line o → (c d : ℕ) × (o ≡ Withdraw c d) × Tells m [] part c d
-  says-gone e (enters n) = absurd (unlike (sym e ∙ n .text) (λ q. omega arith))
-  says-gone e (leaves n) = absurd (unlike (sym e ∙ n .text) (λ q. omega arith))
-  says-gone e (receives n) = absurd (unlike (sym e ∙ n .text) (λ q. omega arith))
-  says-gone e (withdraws {c} {d} n) = (c, d, refl, tells-off (ascii "gone ") e n)
-  says-gone e (ends n) = absurd (unlike (sym e ∙ n) (λ q. omega arith))
+verb-of : (v : Verb) (part : List ℕ) → verbOf (getD (word v ++ part) 0 0) ≡ v
+unfolding verbOf
+verb-of enter part = refl
+verb-of leave part = refl
+verb-of receive part = refl
+verb-of withdraw part = refl
+verb-of end part = refl
 
-  -- and what it asks for, by what its part reads as
+one-verb : (v w : Verb) (a b : List ℕ) → word v ++ a ≡ word w ++ b → v ≡ w
+one-verb v w a b e = sym (verb-of v a) ∙ ap (λ (l : List ℕ). verbOf (getD l 0 0)) e ∙ verb-of w b
 
-  pub asked-in : {p : Pattern} → line ≡ ascii "in " ++ part → Patterned m part p → Asked m line (enterOf p)
-  asked-in e (combination n) = said (enters (names-on (ascii "in ") e n))
-  asked-in e (Patterned.none q) = nothing (λ o s. let w = says-in e s in q (w .0) (w .2))
+-- what the part behind a verb says
+pub data Part (m : ℕ) : Verb → List ℕ → Order → Type 0 where
+  enters : {part : List ℕ} {c : ℕ} → Names m [] part c → Part m enter part (Make (Enter c))
+  leaves : {part : List ℕ} {c : ℕ} → Names m [] part c → Part m leave part (Make (Leave c))
+  receives : {part : List ℕ} {c d : ℕ} → NamesAmount m [] part c d → Part m receive part (Make (Receive c d))
+  withdraws : {part : List ℕ} {c d : ℕ} → NamesAmount m [] part c d → Part m withdraw part (Make (Withdraw c d))
+  ends : Part m end [] End
 
-  pub asked-out : {p : Pattern} → line ≡ ascii "out " ++ part → Patterned m part p → Asked m line (leaveOf p)
-  asked-out e (combination n) = said (leaves (names-on (ascii "out ") e n))
-  asked-out e (Patterned.none q) = nothing (λ o s. let w = says-out e s in q (w .0) (w .2))
+-- a line taken apart, and put together
 
-  pub asked-recv : {a : Amount} → line ≡ ascii "recv " ++ part → Amounts m part a → Asked m line (receiveOf a)
-  asked-recv e (seconds n) = said (receives (tells-on (ascii "recv ") e n))
-  asked-recv e (Amounts.none q) = nothing (λ o s. let w = says-recv e s in q (w .0) (w .1) (w .3))
+pub record VerbAndPart (m : ℕ) (line : List ℕ) (o : Order) : Type 0 where
+  pub verb : Verb
+  pub part : List ℕ
+  pub text : line ≡ word verb ++ part
+  pub says : Part m verb part o
 
-  pub asked-gone : {a : Amount} → line ≡ ascii "gone " ++ part → Amounts m part a → Asked m line (withdrawOf a)
-  asked-gone e (seconds n) = said (withdraws (tells-on (ascii "gone ") e n))
-  asked-gone e (Amounts.none q) = nothing (λ o s. let w = says-gone e s in q (w .0) (w .1) (w .3))
+cancel : (v a b : List ℕ) → v ++ a ≡ v ++ b → a ≡ b
+cancel v a b e = sym (drop-append-seam v a) ∙ ap (drop (length v)) e ∙ drop-append-seam v b
+
+regroup : (verb w t : List ℕ) → verb ++ w ++ ascii " " ++ t ≡ verb ++ (w ++ ascii " " ++ t)
+regroup verb w t = simp append-assoc
 
 module _ {m : ℕ} {line : List ℕ} where
-  pub says-end : {o : Order} → line ≡ ascii "end" → Says m line o → o ≡ End
-  says-end e (enters n) = absurd (unlike (sym e ∙ n .text) (λ q. omega arith))
-  says-end e (leaves n) = absurd (unlike (sym e ∙ n .text) (λ q. omega arith))
-  says-end e (receives n) = absurd (unlike (sym e ∙ n .text) (λ q. omega arith))
-  says-end e (withdraws n) = absurd (unlike (sym e ∙ n .text) (λ q. omega arith))
-  says-end e (ends n) = refl
+  behind-names : {verb : List ℕ} {c : ℕ} → Names m verb line c → Names m [] (written m c) c
+  behind-names n = record { small = n .small; text = refl }
 
-module _ (m : ℕ) (line : List ℕ) where
-  begun-names : (verb : List ℕ) {c : ℕ} → Names m verb line c → Begins verb line
-  begun-names verb {c} n = (written m c, n .text)
+  behind-amount : {verb : List ℕ} {c d : ℕ} (n : NamesAmount m verb line c d) → NamesAmount m [] (written m c ++ ascii " " ++ n .time) c d
+  behind-amount n = record { small = n .small; time = n .time; readable = n .readable; text = refl }
 
-  begun-tells : (verb : List ℕ) {c d : ℕ} → Tells m verb line c d → Begins verb line
-  begun-tells verb {c} {d} n =
-      (written m c ++ ascii " " ++ n .time, behind-verb verb n)
+  pub apart : {o : Order} → Says m line o → VerbAndPart m line o
+  apart (Says.enters n) = record { verb = enter; part = written m _; text = n .text; says = enters (behind-names n) }
+  apart (Says.leaves n) = record { verb = leave; part = written m _; text = n .text; says = leaves (behind-names n) }
+  apart (Says.receives n) =
+      record { verb = receive; part = written m _ ++ ascii " " ++ n .time; text = n .text ∙ regroup (word receive) (written m _) (n .time); says = receives (behind-amount n) }
+  apart (Says.withdraws n) =
+      record { verb = withdraw; part = written m _ ++ ascii " " ++ n .time; text = n .text ∙ regroup (word withdraw) (written m _) (n .time); says = withdraws (behind-amount n) }
+  apart (Says.ends e) = record { verb = end; part = []; text = e; says = ends }
 
-  -- `end` and nothing behind it
-  pub end-alone : Begins (ascii "end") line → length line ≡ 3 → line ≡ ascii "end"
-  end-alone b h = go (b .0) (b .1)
+  with-names : (verb : List ℕ) {part : List ℕ} {c : ℕ} → line ≡ verb ++ part → Names m [] part c → Names m verb line c
+  with-names verb e n = record { small = n .small; text = e ∙ ap (λ (l : List ℕ). verb ++ l) (n .text) }
+
+  with-amount : (verb : List ℕ) {part : List ℕ} {c d : ℕ} → line ≡ verb ++ part → NamesAmount m [] part c d → NamesAmount m verb line c d
+  with-amount verb {c = c} e n = record {
+    small = n .small;
+    time = n .time;
+    readable = n .readable;
+    text = e ∙ ap (λ (l : List ℕ). verb ++ l) (n .text) ∙ sym (regroup verb (written m c) (n .time));
+  }
+
+  together : (v : Verb) {part : List ℕ} {o : Order} → line ≡ word v ++ part → Part m v part o → Says m line o
+  together enter e (enters n) = Says.enters (with-names (ascii "in ") e n)
+  together leave e (leaves n) = Says.leaves (with-names (ascii "out ") e n)
+  together receive e (receives n) = Says.receives (with-amount (ascii "recv ") e n)
+  together withdraw e (withdraws n) = Says.withdraws (with-amount (ascii "gone ") e n)
+  together end e ends = Says.ends e
+
+  -- behind its verb a line says what its part says, and no more
+  pub apart-same : (v : Verb) (part : List ℕ) {o : Order} → line ≡ word v ++ part → Says m line o → Part m v part o
+  apart-same v part {o} e s =
+      let a = apart s in
+      let w : a .verb ≡ v = one-verb (a .verb) v (a .part) part (sym (a .text) ∙ e) in
+      let t : a .part ≡ part = cancel (word v) (a .part) part (ap (λ (x : Verb). word x ++ a .part) (sym w) ∙ sym (a .text) ∙ e) in
+      subst (λ (x : Verb). Part m x part o) w (subst (λ (l : List ℕ). Part m (a .verb) l o) t (a .says))
+
+  pub asked-said : (v : Verb) {part : List ℕ} {o : Order} → line ≡ word v ++ part → Part m v part o → Asked m line o
+  asked-said v e p = said (together v e p)
+
+  pub asked-unsaid : (v : Verb) (part : List ℕ) → line ≡ word v ++ part → ((o : Order) → Part m v part o → ⊥) → Asked m line Unreadable
+  asked-unsaid v part e n = nothing (λ o s. n o (apart-same v part e s))
+
+-- a line with none of the verbs
+pub asked-nothing : (m : ℕ) (line : List ℕ) → ((v : Verb) → Begins (word v) line → ⊥) → Asked m line Unreadable
+asked-nothing m line n = nothing (λ o s. let a = apart s in n (a .verb) (a .part, a .text))
+
+-- a part that is not what its verb asks for says nothing
+
+module _ {m : ℕ} {part : List ℕ} where
+  pub enter-unsaid : ((c : ℕ) → Names m [] part c → ⊥) → (o : Order) → Part m enter part o → ⊥
+  enter-unsaid q o (enters n) = q _ n
+
+  pub leave-unsaid : ((c : ℕ) → Names m [] part c → ⊥) → (o : Order) → Part m leave part o → ⊥
+  leave-unsaid q o (leaves n) = q _ n
+
+  pub receive-unsaid : ((c d : ℕ) → NamesAmount m [] part c d → ⊥) → (o : Order) → Part m receive part o → ⊥
+  receive-unsaid q o (receives n) = q _ _ n
+
+  pub withdraw-unsaid : ((c d : ℕ) → NamesAmount m [] part c d → ⊥) → (o : Order) → Part m withdraw part o → ⊥
+  withdraw-unsaid q o (withdraws n) = q _ _ n
+
+-- `end` and nothing behind it, or something
+module _ {m : ℕ} {line : List ℕ} (b : Begins (ascii "end") line) where
+  pub asked-end : length line ≡ 3 → Asked m line End
+  asked-end h = go (b .0) (b .1)
     where
-      go : (rest : List ℕ) → line ≡ ascii "end" ++ rest → line ≡ ascii "end"
-      go [] e = e
+      go : (rest : List ℕ) → line ≡ ascii "end" ++ rest → Asked m line End
+      go [] e = said (Says.ends e)
       go (x ∷ rest) e = absurd (omega (arith, ap length e))
 
-  -- no verb, or more behind `end`
-  pub asked-nothing : (Begins (ascii "in ") line → ⊥) → (Begins (ascii "out ") line → ⊥) → (Begins (ascii "recv ") line → ⊥)
-      → (Begins (ascii "gone ") line → ⊥) → (line ≡ ascii "end" → ⊥) → Asked m line Unreadable
-  asked-nothing a b c d e = nothing (λ o s. go s)
+  pub asked-more : (length line ≡ 3 → ⊥) → Asked m line Unreadable
+  asked-more n = asked-unsaid end (b .0) (b .1) (unsaid (b .1))
     where
-      go : {o : Order} → Says m line o → ⊥
-      go (enters n) = a (begun-names (ascii "in ") n)
-      go (leaves n) = b (begun-names (ascii "out ") n)
-      go (receives n) = c (begun-tells (ascii "recv ") n)
-      go (withdraws n) = d (begun-tells (ascii "gone ") n)
-      go (ends q) = e q
+      unsaid : {part : List ℕ} → line ≡ ascii "end" ++ part → (o : Order) → Part m end part o → ⊥
+      unsaid e o ends = n (ap length e)
 
 -- line 1
 

@@ -1,15 +1,16 @@
--- P, read from its highest mark on: each character doubles the number and adds itself.
-use Prim.Native.Nat.{ℕ, zero, suc, _+_, _*_, _/_, _%_, _^_, _<_, _≤_}
+-- P, read from its lowest mark on: the last i characters write what is read so far (`Tail`), and each sets the mark in front of them.
+use Prim.Native.Nat.{ℕ, zero, suc, _+_, _-_, _*_, _/_, _%_, _^_, _<_, _≤_}
 use mathlib.Core.Path.{_≡_, refl, sym, ap, ap₂, _∙_}
 use mathlib.Core.List.{List, [], _∷_, _++_}
-use native.Mathlib.Nat.{pow-suc, pow-le-pow-right}
+use native.Mathlib.Nat.{pow-suc}
 use native.Mathlib.Numerals.{add-one}
 use native.Mathlib.Omega.{arith}
-use lib.ListN.{length, getD, take, length-append, List·getD-append}
-use lib.Seq.{take-suc, take-all, take-at, getD-at}
-use Rattle.ground.proofs.Cases.{below-or}
+use lib.ListN.{length, getD, take, drop, drop-of-length-le, length-append, List·getD-append}
+use lib.Seq.{take-at, getD-at, drop-cons}
+use Rattle.ground.proofs.Cases.{below-or, mark}
 use Rattle.lines.specs.declared.Pattern.the-variants.{Combination, NoPattern}
-use Rattle.lines.specs.Words.{written, Patterned, combination}
+use Rattle.lines.specs.Words.{written}
+use Rattle.lines.specs.Parts.{Patterned}
 
 pub written-length : (m c : ℕ) → length (written m c) ≡ m
 unfolding written
@@ -42,39 +43,51 @@ written-same (suc m) c d h k e =
     let q : c / 2 ≡ d / 2 = written-same m (c / 2) (d / 2) (omega arith) (omega arith) f in
     omega arith
 
--- the first i characters write n
-pub record Front (part : List ℕ) (i n : ℕ) : Type 0 where
-  pub small : n < 2 ^ i
-  pub text : take i part ≡ written i n
-
-pub front-none : (part : List ℕ) → Front part 0 0
+-- a mark in front
+written-front : (i n d : ℕ) → n < 2 ^ i → d < 2 → written (suc i) (d * 2 ^ i + n) ≡ (48 + d) ∷ written i n
 unfolding written
-front-none part = record { small = omega arith; text = refl }
-
-pub front-more : (part : List ℕ) (i n d : ℕ) → Front part i n → i < length part → d < 2 → getD part i 0 ≡ 48 + d → Front part (i + 1) (n * 2 + d)
-unfolding written
-front-more part i n d f h k e =
+written-front zero n d h k = ap (λ (x : ℕ). (48 + x) ∷ []) (mark (λ (v : ℕ). (v * 2 ^ 0 + n) % 2 ≡ v) d k (omega arith) (omega arith))
+written-front (suc i) n d h k =
     let p = pow-suc 2 i in
-    let q : (n * 2 + d) / 2 ≡ n = omega arith in
-    let r : (n * 2 + d) % 2 ≡ d = omega arith in
-    rw (add-one i) (record {
-      small = omega (arith, f .small);
-      text = take-suc part i 0 h ∙ ap₂ (λ (a : List ℕ) (b : ℕ). a ++ b ∷ []) (f .text ∙ ap (written i) (sym q)) (e ∙ ap (λ (x : ℕ). 48 + x) (sym r));
-    })
+    let q : (d * 2 ^ suc i + n) / 2 ≡ d * 2 ^ i + n / 2 = mark (λ (v : ℕ). (v * 2 ^ suc i + n) / 2 ≡ v * 2 ^ i + n / 2) d k (omega arith) (omega arith) in
+    let r : (d * 2 ^ suc i + n) % 2 ≡ n % 2 = mark (λ (v : ℕ). (v * 2 ^ suc i + n) % 2 ≡ n % 2) d k (omega arith) (omega arith) in
+    ap₂ (λ (a b : ℕ). written (suc i) a ++ (48 + b) ∷ []) q r ∙ ap (λ (l : List ℕ). l ++ (48 + n % 2) ∷ []) (written-front i (n / 2) d (omega arith) k)
 
-pub front-fits : (part : List ℕ) (i n m : ℕ) → Front part i n → i ≤ m → m ≤ 8 → n < 257
-front-fits part i n m f h k = omega (arith, f .small, pow-le-pow-right {n = 2} (omega arith) {i = i} {j = 8} (omega arith))
+-- the last i characters of m write n
+pub record Tail (part : List ℕ) (m i n : ℕ) : Type 0 where
+  pub small : n < 2 ^ i
+  pub text : drop (m - i) part ≡ written i n
+
+pub tail-none : (part : List ℕ) (m : ℕ) → length part ≡ m → Tail part m 0 0
+unfolding written
+tail-none part m e = let h : length part ≤ m - 0 = omega arith in record { small = omega arith; text = drop-of-length-le part h }
+
+pub tail-more : (part : List ℕ) (m i n d : ℕ) → Tail part m i n → i < m → length part ≡ m → d < 2 → getD part (m - 1 - i) 0 ≡ 48 + d
+    → Tail part m (i + 1) (d * 2 ^ i + n)
+tail-more part m i n d t h l k e =
+    let p = pow-suc 2 i in
+    let here : m - suc i ≡ m - 1 - i = omega arith in
+    let next : suc (m - 1 - i) ≡ m - i = omega arith in
+    rw (add-one i) (record {
+      small = mark (λ (v : ℕ). v * 2 ^ i + n < 2 ^ suc i) d k (omega (arith, t .small)) (omega (arith, t .small));
+      text =
+          ap (λ (j : ℕ). drop j part) here
+          ∙ drop-cons part (m - 1 - i) 0 (omega arith)
+          ∙ ap₂ (λ (x : ℕ) (j : ℕ). x ∷ drop j part) e next
+          ∙ ap (λ (r : List ℕ). (48 + d) ∷ r) (t .text)
+          ∙ sym (written-front i n d (t .small) k);
+    })
 
 module _ (m : ℕ) (part : List ℕ) where
   pub pattern-long : (length part ≡ m → ⊥) → Patterned m part NoPattern
-  pattern-long n = Patterned.none (λ c w. n (ap length (w .text) ∙ written-length m c))
+  pattern-long n = λ c w. n (ap length (w .text) ∙ written-length m c)
 
   pub pattern-other : (i : ℕ) → i < m → ((48 ≤ getD part i 0) × (getD part i 0 ≤ 49) → ⊥) → Patterned m part NoPattern
   pattern-other i h n =
-      Patterned.none (λ c w.
+      λ c w.
       let e : getD part i 0 ≡ getD (written m c) i 0 = ap (λ (l : List ℕ). getD l i 0) (w .text) in
       let b = written-byte m c i h in
-      n (omega arith, omega arith))
+      n (omega arith, omega arith)
 
-  pub pattern-read : (n : ℕ) → length part ≡ m → Front part m n → Patterned m part (Combination n)
-  pattern-read n h f = combination (record { small = f .small; text = sym (take-all m part (omega arith)) ∙ f .text })
+  pub pattern-read : (n : ℕ) → Tail part m m n → Patterned m part (Combination n)
+  pattern-read n t = let z : 0 ≡ m - m = omega arith in record { small = t .small; text = ap (λ (j : ℕ). drop j part) z ∙ t .text }

@@ -9,24 +9,24 @@ use lib.Seq.{take-suc, take-all, drop-at}
 use Rattle.ground.specs.Texts.{Begins}
 
 -- the first i bytes of the line are those of the verb
-pub record Alike (line verb : List ℕ) (i : ℕ) : Type 0 where
+pub record SameSoFar (line verb : List ℕ) (i : ℕ) : Type 0 where
   pub line-long : i ≤ length line
   pub verb-long : i ≤ length verb
   pub same : take i line ≡ take i verb
 
-pub alike-none : (line verb : List ℕ) → Alike line verb 0
-alike-none line verb = record { line-long = omega arith; verb-long = omega arith; same = refl }
+pub so-far-none : (line verb : List ℕ) → SameSoFar line verb 0
+so-far-none line verb = record { line-long = omega arith; verb-long = omega arith; same = refl }
 
-pub alike-more : (line verb : List ℕ) (i : ℕ) → Alike line verb i → i < length line → i < length verb → getD verb i 0 ≡ getD line i 0 → Alike line verb (i + 1)
-alike-more line verb i a h k e =
+pub so-far-more : (line verb : List ℕ) (i : ℕ) → SameSoFar line verb i → i < length line → i < length verb → getD verb i 0 ≡ getD line i 0 → SameSoFar line verb (i + 1)
+so-far-more line verb i a h k e =
     record {
       line-long = omega arith;
       verb-long = omega arith;
       same = rw (add-one i, take-suc line i 0 h, take-suc verb i 0 k, a .same, e);
     }
 
-pub alike-all : (line verb : List ℕ) (i : ℕ) → Alike line verb i → length verb ≤ i → Begins verb line
-alike-all line verb i a h = (
+pub so-far-all : (line verb : List ℕ) (i : ℕ) → SameSoFar line verb i → length verb ≤ i → Begins verb line
+so-far-all line verb i a h = (
   drop i line,
   sym (take-append-drop i line) ∙ ap (λ (l : List ℕ). l ++ drop i line) (a .same ∙ take-all i verb h),
 )

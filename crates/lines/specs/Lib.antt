@@ -1,3 +1,2 @@
 pub mod Words
-pub mod Rows
-pub mod Taken
+pub mod Parts

@@ -4,14 +4,12 @@ use mathlib.Core.Path.{_≡_}
 use mathlib.Core.List.{List, [], _∷_, _++_}
 use Rattle.ground.specs.Texts.{ascii}
 use Rattle.times.specs.Texts.{Readable}
+use Rattle.sheet.specs.declared.Call.the-variants.{Enter, Leave, Receive, Withdraw}
+use Rattle.machine.specs.Rows.{Row, whole, spoiled}
 use Rattle.lines.specs.declared.Order.{Order}
-use Rattle.lines.specs.declared.Order.the-variants.{Enter, Leave, Receive, Withdraw, End, Unreadable}
+use Rattle.lines.specs.declared.Order.the-variants.{Make, End, Unreadable}
 use Rattle.lines.specs.declared.First.{First}
 use Rattle.lines.specs.declared.First.the-variants.{Marks, NotMarks}
-use Rattle.lines.specs.declared.Pattern.{Pattern}
-use Rattle.lines.specs.declared.Pattern.the-variants.{Combination, NoPattern}
-use Rattle.lines.specs.declared.Amount.{Amount}
-use Rattle.lines.specs.declared.Amount.the-variants.{Seconds, NoAmount}
 
 -- P: the combination c as m characters 0 or 1, highest mark first
 unfoldable pub written : ℕ → ℕ → List ℕ
@@ -24,7 +22,7 @@ pub record Names (m : ℕ) (verb line : List ℕ) (c : ℕ) : Type 0 where
   pub text : line ≡ verb ++ written m c
 
 -- a verb, P and T, with one space between parts: `recv P T`, `gone P T`
-pub record Tells (m : ℕ) (verb line : List ℕ) (c d : ℕ) : Type 0 where
+pub record NamesAmount (m : ℕ) (verb line : List ℕ) (c d : ℕ) : Type 0 where
   pub small : c < 2 ^ m
   pub time : List ℕ
   pub readable : Readable time d
@@ -32,10 +30,10 @@ pub record Tells (m : ℕ) (verb line : List ℕ) (c d : ℕ) : Type 0 where
 
 -- what a line says, of a sheet with m marks
 pub data Says (m : ℕ) (line : List ℕ) : Order → Type 0 where
-  enters : {c : ℕ} → Names m (ascii "in ") line c → Says m line (Enter c)
-  leaves : {c : ℕ} → Names m (ascii "out ") line c → Says m line (Leave c)
-  receives : {c d : ℕ} → Tells m (ascii "recv ") line c d → Says m line (Receive c d)
-  withdraws : {c d : ℕ} → Tells m (ascii "gone ") line c d → Says m line (Withdraw c d)
+  enters : {c : ℕ} → Names m (ascii "in ") line c → Says m line (Make (Enter c))
+  leaves : {c : ℕ} → Names m (ascii "out ") line c → Says m line (Make (Leave c))
+  receives : {c d : ℕ} → NamesAmount m (ascii "recv ") line c d → Says m line (Make (Receive c d))
+  withdraws : {c d : ℕ} → NamesAmount m (ascii "gone ") line c d → Says m line (Make (Withdraw c d))
   ends : line ≡ ascii "end" → Says m line End
 
 -- and what it asks for: a line that says nothing of these is unreadable
@@ -51,28 +49,12 @@ pub data Opens (line : List ℕ) : First → Type 0 where
   marks : {n : ℕ} → MarksLine line n → Opens line (Marks n)
   other : ((n : ℕ) → MarksLine line n → ⊥) → Opens line NotMarks
 
--- what the functions of the reader tell each other of the part behind a verb
+-- the same of a line of an input: one that is too long or not ended is unreadable
 
-pub data Patterned (m : ℕ) (part : List ℕ) : Pattern → Type 0 where
-  combination : {c : ℕ} → Names m [] part c → Patterned m part (Combination c)
-  none : ((c : ℕ) → Names m [] part c → ⊥) → Patterned m part NoPattern
+pub data RowAsks (m : ℕ) : Row → Order → Type 0 where
+  read : {line : List ℕ} {o : Order} → Asked m line o → RowAsks m (whole line) o
+  lost : RowAsks m spoiled Unreadable
 
-pub data Amounts (m : ℕ) (part : List ℕ) : Amount → Type 0 where
-  seconds : {c d : ℕ} → Tells m [] part c d → Amounts m part (Seconds c d)
-  none : ((c d : ℕ) → Tells m [] part c d → ⊥) → Amounts m part NoAmount
-
-abbrev pub enterOf : Pattern → Order
-enterOf (Combination c) = Enter c
-enterOf NoPattern = Unreadable
-
-abbrev pub leaveOf : Pattern → Order
-leaveOf (Combination c) = Leave c
-leaveOf NoPattern = Unreadable
-
-abbrev pub receiveOf : Amount → Order
-receiveOf (Seconds c d) = Receive c d
-receiveOf NoAmount = Unreadable
-
-abbrev pub withdrawOf : Amount → Order
-withdrawOf (Seconds c d) = Withdraw c d
-withdrawOf NoAmount = Unreadable
+pub data RowOpens : Row → First → Type 0 where
+  read : {line : List ℕ} {f : First} → Opens line f → RowOpens (whole line) f
+  lost : RowOpens spoiled NotMarks

@@ -1,22 +1,19 @@
 // The desk's lines: what the bytes of a line ask for. The reader takes the verb and hands on the part of the text behind it.
-ghost use mathlib.Core.Path.{_≡_};
 ghost use Prim.Native.Nat.{_≤_};
 ghost use Rattle.ground.specs.Decides.{Decides};
 ghost use Rattle.ground.specs.Texts.{Begins};
-ghost use Rattle.lines.specs.Words.{Patterned, Amounts, Opens, Asked, enterOf, leaveOf, receiveOf, withdrawOf};
-
-mod line;
-
-pub use line::Line;
+ghost use Rattle.machine.specs.AtHand.{rowOf, LineFits};
+ghost use Rattle.lines.specs.Words.{Opens, Asked, RowOpens, RowAsks};
+ghost use Rattle.lines.specs.Parts.{Patterned, Amounts};
+use boxes;
+use machine::Line;
+use sheet::Call;
 use times;
 use times::Time;
 
-// What a line behind line 1 asks for; a combination, and an amount of seconds.
+// What a line behind line 1 asks for: a call on the sheet, or the end.
 pub enum Order {
-    Enter(usize),
-    Leave(usize),
-    Receive(usize, u64),
-    Withdraw(usize, u64),
+    Make(Call),
     End,
     Unreadable,
 }
@@ -27,16 +24,19 @@ pub enum First {
     NotMarks,
 }
 
+// What a part reads as that is to be P.
 pub enum Pattern {
     Combination(usize),
     NoPattern,
 }
 
+// What a part reads as that is to be P, one space and T.
 pub enum Amount {
     Seconds(usize, u64),
     NoAmount,
 }
 
+// Whether the line begins with the verb.
 fn begins(line: &[u8], verb: &[u8]) -> bool
     ensures { λ r. ⌜ Decides r (Begins (now (verb .entry)) (now (line .entry))) ⌝ }
 {
@@ -53,7 +53,7 @@ fn begins(line: &[u8], verb: &[u8]) -> bool
     true
 }
 
-// P: m characters 0 or 1, highest mark first.
+// P: m characters 0 or 1, highest mark first; the last character is mark 0.
 fn read_pattern(part: &[u8], m: usize) -> Pattern
     requires { ⌜ m ≤ 8 ⌝ }
     ensures { λ r. ⌜ Patterned m (now (part .entry)) r ⌝ }
@@ -64,14 +64,14 @@ fn read_pattern(part: &[u8], m: usize) -> Pattern
     let mut n: usize = 0;
     let mut i: usize = 0;
     while i < m {
-        let c = part[i];
+        let c = part[m - 1 - i];
         if c < 48 {
             return Pattern::NoPattern;
         }
         if 49 < c {
             return Pattern::NoPattern;
         }
-        n = n * 2 + (ground::byte(c) - 48);
+        n = boxes::with_mark(n, i, ground::byte(c) - 48);
         i += 1;
     }
     Pattern::Combination(n)
@@ -100,58 +100,38 @@ fn read_amount(part: &[u8], m: usize) -> Amount
     Amount::Seconds(c, d)
 }
 
-fn enter(p: Pattern) -> Order
-    ensures { λ r. ⌜ r ≡ enterOf p ⌝ }
-{
-    match p {
-        Pattern::Combination(c) => Order::Enter(c),
-        Pattern::NoPattern => Order::Unreadable,
-    }
-}
-
-fn leave(p: Pattern) -> Order
-    ensures { λ r. ⌜ r ≡ leaveOf p ⌝ }
-{
-    match p {
-        Pattern::Combination(c) => Order::Leave(c),
-        Pattern::NoPattern => Order::Unreadable,
-    }
-}
-
-fn receive(a: Amount) -> Order
-    ensures { λ r. ⌜ r ≡ receiveOf a ⌝ }
-{
-    match a {
-        Amount::Seconds(c, d) => Order::Receive(c, d),
-        Amount::NoAmount => Order::Unreadable,
-    }
-}
-
-fn withdraw(a: Amount) -> Order
-    ensures { λ r. ⌜ r ≡ withdrawOf a ⌝ }
-{
-    match a {
-        Amount::Seconds(c, d) => Order::Withdraw(c, d),
-        Amount::NoAmount => Order::Unreadable,
-    }
-}
-
-// A line behind line 1, of a sheet with m marks.
+// What the bytes of a line behind line 1 ask for, of a sheet with m marks.
 pub fn read(line: &[u8], m: usize) -> Order
     requires { ⌜ m ≤ 8 ⌝ }
     ensures { λ r. ⌜ Asked m (now (line .entry)) r ⌝ }
 {
     if begins(line, b"in ") {
-        return enter(read_pattern(&line[3..], m));
+        let p = read_pattern(&line[3..], m);
+        let Pattern::Combination(c) = p else {
+            return Order::Unreadable;
+        };
+        return Order::Make(Call::Enter(c));
     }
     if begins(line, b"out ") {
-        return leave(read_pattern(&line[4..], m));
+        let p = read_pattern(&line[4..], m);
+        let Pattern::Combination(c) = p else {
+            return Order::Unreadable;
+        };
+        return Order::Make(Call::Leave(c));
     }
     if begins(line, b"recv ") {
-        return receive(read_amount(&line[5..], m));
+        let a = read_amount(&line[5..], m);
+        let Amount::Seconds(c, d) = a else {
+            return Order::Unreadable;
+        };
+        return Order::Make(Call::Receive(c, d));
     }
     if begins(line, b"gone ") {
-        return withdraw(read_amount(&line[5..], m));
+        let a = read_amount(&line[5..], m);
+        let Amount::Seconds(c, d) = a else {
+            return Order::Unreadable;
+        };
+        return Order::Make(Call::Withdraw(c, d));
     }
     if begins(line, b"end") {
         if line.len() == 3 {
@@ -161,7 +141,7 @@ pub fn read(line: &[u8], m: usize) -> Order
     Order::Unreadable
 }
 
-// Line 1.
+// What the bytes of line 1 say.
 pub fn read_marks(line: &[u8]) -> First
     ensures { λ r. ⌜ Opens (now (line .entry)) r ⌝ }
 {
@@ -179,4 +159,31 @@ pub fn read_marks(line: &[u8]) -> First
         return First::NotMarks;
     }
     First::Marks(ground::byte(c) - 48)
+}
+
+// What the line at hand asks for; one that is too long or cut off is unreadable.
+pub fn order_of(line: Line, m: usize) -> Order
+    requires { ⌜ LineFits line ⌝ }
+    requires { ⌜ m ≤ 8 ⌝ }
+    ensures { λ r. ⌜ RowAsks m (rowOf line) r ⌝ }
+{
+    if line.long {
+        return Order::Unreadable;
+    }
+    let len = line.len;
+    let text = line.text;
+    read(&text[..len], m)
+}
+
+// What the line at hand says as line 1.
+pub fn first_of(line: Line) -> First
+    requires { ⌜ LineFits line ⌝ }
+    ensures { λ r. ⌜ RowOpens (rowOf line) r ⌝ }
+{
+    if line.long {
+        return First::NotMarks;
+    }
+    let len = line.len;
+    let text = line.text;
+    read_marks(&text[..len])
 }

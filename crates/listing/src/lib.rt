@@ -30,8 +30,8 @@ fn class_bits(m: usize, outside: &[u32]) -> u32
     class
 }
 
-// An area for the search, for as many boxes as a class can have combinations.
-fn own_area() -> [u8; 32]
+// An area for a list: for as many boxes as a class can have combinations.
+pub fn area() -> [u8; 32]
     ensures { λ r. ⌜ 32 ≡ length r ⌝ }
 {
     [0u8; 32]
@@ -43,7 +43,7 @@ fn searched(m: usize, outside: &[u32], area: &mut [u8]) -> Value
     ensures { λ r. ⌜ Searched m (classOf m (now (outside .entry))) (now (area .entry)) r (now (area .exit)) ⌝ }
 {
     let class = class_bits(m, outside);
-    let mut own = own_area();
+    let mut own = crate::area();
     let n = boxes::power2(m);
     match seek::shortest(m, class, class, &mut own[..n]) {
         Found::Boxes(k) => {

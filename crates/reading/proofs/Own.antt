@@ -14,7 +14,7 @@ use Rattle.boxes.specs.Sums.{only}
 use Rattle.boxes.proofs.Sums.{only-zero}
 use Rattle.tables.specs.Tables.{entry}
 use Rattle.sheet.specs.Limits.{mostHeld}
-use Rattle.sheet.specs.Record.{Record}
+use Rattle.sheet.specs.Record.{Record, withClass, withTimes}
 use Rattle.stored.specs.Sections.{bytesBehind, standsIn, mayStand, added, updated}
 use Rattle.stored.specs.Parts.{unset}
 use Rattle.stored.specs.declared.Section.{Section}
@@ -35,12 +35,12 @@ own-marks Held f r = refl
 
 pub own-start : (s : Section) (f : ℕ → ℕ) {m : ℕ} {r : Record} → Before s m r → ((c : ℕ) → c < 2 ^ m → f c ≡ unset s) → withOwn s f r ≡ r
 own-start Class f {m} {r} b h =
-    ap (λ (g : ℕ → Bool). record { marks = r .marks; class = g; times = r .times })
+    ap (λ (g : ℕ → Bool). withClass g r)
     (fun-ext (λ c. below-or c (2 ^ r .marks)
     (λ l. ap (λ (x : ℕ). ltb c (2 ^ r .marks) && eqb x 0) (h c (omega (arith, ap (λ (x : ℕ). 2 ^ x) (b .marks)))) ∙ and-false (ltb c (2 ^ r .marks)) ∙ sym (b .none c))
     (λ l. ap (λ (x : Bool). x && eqb (f c) 0) (le-ltb c (2 ^ r .marks) l) ∙ sym (b .none c))))
 own-start Held f {m} {r} b h =
-    ap (λ (g : ℕ → ℕ). record { marks = r .marks; class = r .class; times = g })
+    ap (λ (g : ℕ → ℕ). withTimes g r)
     (fun-ext (λ c.
     let z : r .times c ≡ 0 = omega (arith, ltb-false 0 (r .times c) (b .none c)) in
     below-or c (2 ^ r .marks)
@@ -58,11 +58,11 @@ module _ (own : List ℕ) (c x : ℕ) (h : c < length own) where
   pub own-added : (s : Section) (r : Record) → c < 2 ^ r .marks → x < 256 ^ bytesBehind s → added s (withOwn s (entry own) r) c x ≡ withOwn s (entry (set own c x)) r
   own-added Class r l small =
       let z : x ≡ 0 = omega arith in
-      ap (λ (g : ℕ → Bool). record { marks = r .marks; class = g; times = r .times })
+      ap (λ (g : ℕ → Bool). withClass g r)
       (updated-is c true _ (λ y. ltb y (2 ^ r .marks) && eqb (entry (set own c x) y) 0) (rw (lt-ltb c (2 ^ r .marks) l, set-here, z))
       (λ y n. ap (λ (v : ℕ). ltb y (2 ^ r .marks) && eqb v 0) (set-other y n)))
   own-added Held r l small =
-      ap (λ (g : ℕ → ℕ). record { marks = r .marks; class = r .class; times = g })
+      ap (λ (g : ℕ → ℕ). withTimes g r)
       (updated-is c x _ (λ y. only (ltb y (2 ^ r .marks)) (entry (set own c x) y)) (rw (lt-ltb c (2 ^ r .marks) l) set-here)
       (λ y n. ap (only (ltb y (2 ^ r .marks))) (set-other y n)))
 

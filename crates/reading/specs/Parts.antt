@@ -8,7 +8,7 @@ use lib.ListN.{length, take, drop}
 use Rattle.boxes.specs.Sums.{only}
 use Rattle.tables.specs.Tables.{entry}
 use Rattle.sheet.specs.Limits.{mostMarks, mostHeld}
-use Rattle.sheet.specs.Record.{Record}
+use Rattle.sheet.specs.Record.{Record, withClass, withTimes}
 use Rattle.stored.specs.Sections.{standsIn, heldIn}
 use Rattle.stored.specs.Fields.{numberIn, Next, due, count, sectionsDue, entriesDue, Outcome, refused, Run}
 use Rattle.stored.specs.declared.Section.{Section}
@@ -43,8 +43,8 @@ mostOwn Held = mostHeld
 
 -- the record that has in a section what the combinations have of their own: those in the class have 0, and the others their seconds
 abbrev pub withOwn : Section → (ℕ → ℕ) → Record → Record
-withOwn Class f r = record { marks = r .marks; class = λ c. ltb c (2 ^ r .marks) && eqb (f c) 0; times = r .times }
-withOwn Held f r = record { marks = r .marks; class = r .class; times = λ c. only (ltb c (2 ^ r .marks)) (f c) }
+withOwn Class f r = withClass (λ c. ltb c (2 ^ r .marks) && eqb (f c) 0) r
+withOwn Held f r = withTimes (λ c. only (ltb c (2 ^ r .marks)) (f c)) r
 
 -- what can be read before a section: nothing of it, and nothing held
 pub record Before (s : Section) (m : ℕ) (r : Record) : Type 0 where

@@ -1,11 +1,10 @@
 -- Entries at 3^m and above are neither read nor changed: sheets that agree below get the same answer, and agree below afterwards.
-use Prim.Native.Nat.{ℕ, _+_, _^_, _<_, _≤_}
+use Prim.Native.Nat.{ℕ, _+_, _^_, _<_}
 use mathlib.Core.Path.{_≡_, refl, sym, _∙_, ap, ap₂, subst}
 use mathlib.Core.Bool.{Bool, true, false, not, cond}
 use mathlib.Core.List.{List}
 use native.Mathlib.Omega.{arith}
 use lib.Dec.{eqb, leb, ltb}
-use lib.ListN.{length}
 use borrow.Author.Tests.{ne-eqb}
 use Rattle.ground.proofs.Cases.{same-or}
 use Rattle.boxes.specs.Boxes.{single, freeCount}
@@ -19,7 +18,7 @@ use Rattle.sheet.specs.declared.Call.the-variants.{Enter, Leave, Receive
 use Rattle.sheet.specs.declared.Move.{Move}
 use Rattle.sheet.specs.declared.Sheet.{Sheet}
 use Rattle.sheet.specs.Limits.{mostMarks, entries, marksOk, amountOk, mostHeld}
-use Rattle.sheet.specs.Record.{Table, outside-counts, held-seconds, kept}
+use Rattle.sheet.specs.Record.{outside-counts, held-seconds, kept}
 use Rattle.sheet.specs.Calls.{answered, standing, classShift, fitsClass, fitsAmount, changeNo, amountNo, moveOf, shiftIn, movedSheet, numberOn, didOf}
 use Rattle.sheet.specs.Promises.{Long, Agree, Alike, AboveKept}
 use Rattle.sheet.proofs.Alters.{by-answer, table-moved}

@@ -107,7 +107,7 @@ class-of-ready r = record { marks = r .marks; class = r .class }
 opened-ready : (m : ℕ) → marksOk mostMarks m ≡ true → Ready mostMarks (sheetOf entries (opened m))
 opened-ready m e =
     let l = boxes-fit m e in
-    record { marks = e; class = class-sound 243 m l (λ c. false); times = times-sound 243 m l (λ c. 0) (omega (arith, sum-zero (2 ^ m))) }
+    record { marks = e; class = class-sound entries m l (λ c. false); times = times-sound entries m l (λ c. 0) (omega (arith, sum-zero (2 ^ m))) }
 
 pub open-ready : (m : ℕ) → Ready mostMarks (openOf mostMarks entries m .sheet)
 unfolding marksOk

@@ -2,15 +2,13 @@
 use Prim.Native.Nat.{ℕ, _^_, _<_, _≤_}
 use mathlib.Core.Path.{_≡_, refl, _∙_, ap}
 use mathlib.Core.Bool.{Bool, true, false, not, _&&_}
-use mathlib.Core.List.{List}
 use native.Mathlib.Nat.{one-le-pow}
 use native.Mathlib.Omega.{arith}
 use lib.Dec.{eqb}
-use borrow.Author.Tests.{lt-ltb, le-ltb}
+use borrow.Author.Tests.{lt-ltb}
 use Rattle.boxes.specs.Boxes.{allFree}
 use Rattle.boxes.specs.Sums.{sum, only}
 use Rattle.boxes.proofs.Boxes.{sumIn-all}
-use Rattle.ground.proofs.Cases.{below-or, clash}
 use Rattle.tables.specs.Tables.{entry, own, afresh}
 use Rattle.tables.proofs.Entries.{afresh-own, afresh-sums, afresh-entry}
 use Rattle.sheet.specs.Limits.{mostHeld}
@@ -46,7 +44,3 @@ module _ (n m : ℕ) (fits : 3 ^ m ≤ n) where
 
   pub times-sound : (times : ℕ → ℕ) → sum (2 ^ m) times ≤ mostHeld → TimesSound m (afresh n m times)
   times-sound times l = record { sums = afresh-sums n m times fits; most = omega (arith, times-total times) }
-
--- no class of a sheet has a number that is no combination
-pub class-below : (m : ℕ) (t : List ℕ) (c : ℕ) → classOf m t c ≡ true → c < 2 ^ m
-class-below m t c e = below-or c (2 ^ m) (λ l. l) (λ l. clash e (ap (λ (z : Bool). z && eqb (own m t c) 0) (le-ltb c (2 ^ m) l)))

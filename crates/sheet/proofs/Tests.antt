@@ -14,7 +14,7 @@ use Rattle.boxes.proofs.Choices.{freeMarks-lt, freeCount-ones}
 use Rattle.tables.specs.Tables.{entry, own, fitsShifted, fitsMoved, touched}
 use Rattle.tables.specs.Parts.{Bears, AllBear}
 use Rattle.tables.proofs.Touched.{touched-at}
-use Rattle.sheet.specs.Limits.{marksOk, amountOk, mostHeld, mostMarks}
+use Rattle.sheet.specs.Limits.{marksOk, amountOk, mostHeld, mostMarks, entries}
 use Rattle.sheet.specs.Record.{Table, outside-counts, held-seconds, kept}
 use Rattle.sheet.specs.Calls.{standing, classShift, amountShift, classMove, amountMove, moveOf, shiftIn, fitsClass, fitsAmount, changeNo, amountNo, numberOn}
 use Rattle.sheet.specs.Promises.{SomeShift}
@@ -30,8 +30,8 @@ unfolding marksOk
 marks-most most m e = leb-true m most (and-right (leb 1 m) (leb m most) e)
 
 -- a sheet's tables have an entry for each box
-pub boxes-fit : (m : ℕ) → marksOk mostMarks m ≡ true → 3 ^ m ≤ 243
-boxes-fit m e = pow-le-pow-right {n = 3} (omega arith) {i = m} {j = 5} (marks-most 5 m e)
+pub boxes-fit : (m : ℕ) → marksOk mostMarks m ≡ true → 3 ^ m ≤ entries
+boxes-fit m e = pow-le-pow-right {n = 3} (omega arith) {i = m} {j = 5} (marks-most mostMarks m e)
 
 pub amount-some : (d : ℕ) → amountOk d ≡ true → 1 ≤ d
 unfolding amountOk
@@ -201,7 +201,7 @@ amount-more false d l = l
 
 module _ (s : Sheet) (into : Bool) (c : ℕ) (w : Changes mostMarks into (s .marks) (s .outside) c) where
   class-bear : (t : Table) → AllBear (s .marks) c (shiftIn t (classMove into c)) (kept t s)
-  class-bear outside-counts = change-bears (s .marks) c into (s .outside) (marks-most 5 _ (w .marks)) (w .fits)
+  class-bear outside-counts = change-bears (s .marks) c into (s .outside) (marks-most mostMarks _ (w .marks)) (w .fits)
   class-bear held-seconds = λ b h. tt
 
   class-shifts : (t : Table) → SomeShift (shiftIn t (classMove into c))

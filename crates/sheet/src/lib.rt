@@ -15,9 +15,8 @@ mod moves;
 mod numbers;
 mod soundness;
 
-pub use numbers::marks_ok;
-
 use boxes;
+pub use numbers::marks_ok;
 use tables;
 use tables::Shift;
 
@@ -75,7 +74,10 @@ impl Sheet {
 
     // The constants are the numbers of the definitions.
     pub fn limits()
-        ensures { λ r. do ⌜ ((← ⟦Sheet::MOST_MARKS⟧ .entry) ≡ mostMarks) × ((← ⟦Sheet::ENTRIES⟧ .entry) ≡ entries) × ((← ⟦Sheet::MOST_HELD⟧ .entry) ≡ mostHeld) × ((← ⟦Sheet::MOST_AMOUNT⟧ .entry) ≡ mostAmount) ⌝ }
+        ensures { λ r. do ⌜ (← ⟦Sheet::MOST_MARKS⟧ .entry) ≡ mostMarks ⌝ }
+        ensures { λ r. do ⌜ (← ⟦Sheet::ENTRIES⟧ .entry) ≡ entries ⌝ }
+        ensures { λ r. do ⌜ (← ⟦Sheet::MOST_HELD⟧ .entry) ≡ mostHeld ⌝ }
+        ensures { λ r. do ⌜ (← ⟦Sheet::MOST_AMOUNT⟧ .entry) ≡ mostAmount ⌝ }
     {}
 
     // The sheet worked out afresh from what each combination adds to the outside counts, and the seconds that it holds.

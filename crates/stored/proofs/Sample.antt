@@ -1,4 +1,4 @@
--- 01's sample sheet, stored, and what it is read as; and faults with their places.
+-- 01's sample sheet, stored, and what it is read as.
 use Prim.Native.Nat.{ℕ, _^_, _≤_}
 use mathlib.Core.Path.{_≡_, refl, sym, subst}
 use mathlib.Core.Bool.{cond}
@@ -7,14 +7,11 @@ use native.Mathlib.Omega.{arith}
 use lib.Dec.{eqb, ltb}
 use Rattle.boxes.specs.Sums.{sum}
 use Rattle.sheet.specs.Limits.{mostMarks, entries, marksOk}
-use Rattle.sheet.specs.Record.{Record, opened}
+use Rattle.sheet.specs.Record.{Record}
 use Rattle.stored.specs.declared.Read.{Read}
-use Rattle.stored.specs.Fields.{numberIn, marks, count, end, sectionsDue, judge, refused, good, Reading, over, early, faulty}
-use Rattle.stored.specs.Sections.{sections}
-use Rattle.stored.specs.declared.Section.the-variants.{Class, Held}
+use Rattle.stored.specs.Fields.{marks, good}
 use Rattle.stored.specs.Answers.{readOf, Reads}
 use Rattle.stored.specs.Form.{bytes, listed, form}
-use Rattle.stored.proofs.Runs.{goes}
 use Rattle.stored.proofs.Trips.{form-same, told-agrees, form-same-sheet}
 
 -- two marks; 01, 10 and 11 are in the class; 00 holds 4:00, 01 2:30 and 11 10:00
@@ -32,22 +29,3 @@ sample-read {a} x =
     let long : 3 ^ mostMarks ≤ entries = omega arith in
     form-same-sheet mostMarks entries long (omega arith) sample refl (omega arith)
     (subst (λ (t : List ℕ). Reads mostMarks entries t a) (sym (form-same (told-agrees mostMarks entries long sample refl))) x)
-
--- a count cut in half ends early
-pub half-count : Reading mostMarks (2 ∷ 3 ∷ []) (refused 10 2)
-unfolding judge numberIn marksOk
-half-count = goes marks (2 ∷ 3 ∷ []) (sectionsDue sections (opened 2)) (omega arith) refl (early {d = count Class (Held ∷ []) (opened 2)} {l = 3 ∷ []} (omega arith))
-
--- a count above 2^m is faulty at its own offset, even if the input ends there
-pub count-above : Reading mostMarks (2 ∷ 5 ∷ 0 ∷ []) (refused 10 1)
-unfolding judge numberIn marksOk
-count-above =
-    goes marks (2 ∷ 5 ∷ 0 ∷ []) (sectionsDue sections (opened 2)) (omega arith) refl (faulty {d = count Class (Held ∷ []) (opened 2)} {l = 5 ∷ 0 ∷ []} (omega arith) refl)
-
--- a byte left over
-pub one-more : Reading mostMarks (1 ∷ 0 ∷ 0 ∷ 0 ∷ 0 ∷ 7 ∷ []) (refused 10 5)
-unfolding judge numberIn marksOk
-one-more =
-    goes marks (1 ∷ 0 ∷ 0 ∷ 0 ∷ 0 ∷ 7 ∷ []) (sectionsDue sections (opened 1)) (omega arith) refl
-    (goes (count Class (Held ∷ []) (opened 1)) (0 ∷ 0 ∷ 0 ∷ 0 ∷ 7 ∷ []) (sectionsDue (Held ∷ []) (opened 1)) (omega arith) refl
-    (goes (count Held [] (opened 1)) (0 ∷ 0 ∷ 7 ∷ []) (end (opened 1)) (omega arith) refl over))

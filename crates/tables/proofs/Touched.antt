@@ -1,13 +1,12 @@
 -- The touched entries are those of the boxes through c, one for each set of free marks.
-use Prim.Native.Nat.{ℕ, zero, suc, _+_, _*_, _^_, _<_}
-use mathlib.Core.Bool.{Bool, true, false, not, _&&_, _||_}
-use mathlib.Core.Path.{_≡_, refl, sym, _∙_, ap, ap₂}
+use Prim.Native.Nat.{ℕ, _+_, _*_, _^_, _<_}
+use mathlib.Core.Bool.{Bool, true, false, not, _||_}
+use mathlib.Core.Path.{_≡_, sym, _∙_, ap, ap₂}
 use mathlib.Core.List.{List}
 use lib.Count.{ones}
-use native.Mathlib.Omega.{arith}
 use Rattle.boxes.specs.Boxes.{contains, freeMarks, through}
 use Rattle.ground.proofs.Every.{every-yes, every-at, every-no}
-use Rattle.ground.proofs.Cases.{if, clash, same-or, and-left, and-right}
+use Rattle.ground.proofs.Cases.{if, clash}
 use Rattle.boxes.proofs.Boxes.{contains-box}
 use Rattle.boxes.proofs.Choices.{through-lt, through-contains, through-free, freeMarks-lt, freeCount-through}
 use Rattle.tables.specs.declared.Shift.{Shift}

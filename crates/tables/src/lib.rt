@@ -1,6 +1,6 @@
 // Tables of kept numbers, lent by their owner: changed at the boxes that contain one combination, tested, and worked out afresh.
 ghost use mathlib.Core.Path.{_≡_};
-ghost use Prim.Native.Nat.{ℕ, _+_, _*_, _-_, _^_, _<_, _≤_};
+ghost use Prim.Native.Nat.{_+_, _*_, _-_, _^_, _<_, _≤_};
 ghost use lib.ListN.{length};
 ghost use Rattle.ground.specs.Decides.{Decides};
 ghost use Rattle.boxes.specs.Boxes.{sumIn, allFree};

@@ -73,9 +73,10 @@ first-keeps first second b e = subst (Compared first second) (sym e) (Compared.k
 pub holds-long : {t : List ℕ} {a : Read} → Reads mostMarks entries t a → Long entries (a .sheet)
 holds-long {t} {a} x = subst (λ (y : Read). Long entries (y .sheet)) (sym (x .is)) (long (x .outcome))
   where
-    afresh-long : (r : Record) (k : Table) → length (kept k (sheetOf entries r)) ≡ 243
-    afresh-long r outside-counts = tab-length 243 _
-    afresh-long r held-seconds = tab-length 243 _
+    afresh-long : (r : Record) (k : Table) → length (kept k (sheetOf entries r)) ≡ entries
+    afresh-long r outside-counts = tab-length entries _
+    afresh-long r held-seconds = tab-length entries _
+
     long : (o : Outcome) → Long entries (readOf entries o .sheet)
     long (good r) = afresh-long r
     long (refused n p) = afresh-long (opened 1)

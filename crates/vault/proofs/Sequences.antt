@@ -30,7 +30,7 @@ use Rattle.vault.specs.Sequences.{Entry, changing, copying, lentTo, call
 
 reads-form : (r : Record) → Good r → {a : Read} → Reads mostMarks entries (form r) a → a ≡ readOf entries (good r)
 reads-form r g {a} x =
-    form-same-sheet 5 243 five (omega arith) r (g .marks) (g .times) (subst (λ (t : List ℕ). Reads mostMarks entries t a) (sym (form-kept r g)) x)
+    form-same-sheet 5 entries five (omega arith) r (g .marks) (g .times) (subst (λ (t : List ℕ). Reads mostMarks entries t a) (sym (form-kept r g)) x)
 
 -- the bytes of a record hold its sheet
 pub holds-record : (r : Record) → Good r → {s : Sheet} → Holds (form r) s → s ≡ sheetOf entries r
@@ -117,5 +117,5 @@ pub open-begins : (m : ℕ) {out later : List ℕ} {reply : Reply} → Put (open
     → (marksOk mostMarks m ≡ true) × (take (reply .value) later ≡ form (opened m))
 open-begins m {out} {later} {reply} p z =
     if (marksOk mostMarks m)
-    (λ e. (e, written-form (opened m) (good-opened m e) (subst (λ (a : Answer). Put a out reply later) (sym (open-done 5 243 m e)) p) z))
-    (λ e. absurd (not-written (sheetOf entries (opened 1)) (subst (λ (a : Answer). Put a out reply later) (sym (open-refused 5 243 m e)) p) z))
+    (λ e. (e, written-form (opened m) (good-opened m e) (subst (λ (a : Answer). Put a out reply later) (sym (open-done 5 entries m e)) p) z))
+    (λ e. absurd (not-written (sheetOf entries (opened 1)) (subst (λ (a : Answer). Put a out reply later) (sym (open-refused 5 entries m e)) p) z))

@@ -1,5 +1,4 @@
 -- What the functions behind the entries tell each other.
-use Prim.Native.Nat.{ℕ}
 use Rattle.sheet.specs.Limits.{mostMarks}
 use Rattle.sheet.specs.Record.{outside-counts, held-seconds}
 use Rattle.sheet.specs.Calls.{ClassSize}

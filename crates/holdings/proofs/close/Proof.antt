@@ -16,10 +16,10 @@ finish-requires : tie.Need-finish-requires
 finish-requires c κs = search needs
 
 array-share-prefix-out : tie.Need-array-share-prefix-out
-array-share-prefix-out c = let s = c .before .before .before .before in wrote-front (c .before .finish .ensures (s .pre .0 .0) (s .pre .0 .1) .wrote) .1
+array-share-prefix-out c = let s = c .before .before .before .before in wrote-front (c .before .finish .ensures (s .pre .0 .0) (s .pre .0 .1) .laid) .1
 
 slice-aggregate-write-all : tie.Need-slice-aggregate-write-all
-slice-aggregate-write-all c = let s = c .before .before .before .before .before in sym (length-take-le _ _ (wrote-front (c .before .before .finish .ensures (s .pre .0 .0) (s .pre .0 .1) .wrote) .1))
+slice-aggregate-write-all c = let s = c .before .before .before .before .before in sym (length-take-le _ _ (wrote-front (c .before .before .finish .ensures (s .pre .0 .0) (s .pre .0 .1) .laid) .1))
 
 write-all-requires : tie.Need-write-all-requires
 write-all-requires c κs = search needs

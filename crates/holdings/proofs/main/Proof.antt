@@ -1,14 +1,15 @@
 -- The turns left leave room for the lines of each.
 use Prim.Native.Nat.{_+_, _*_, _^_, _<_}
-use mathlib.Core.Path.{ap}
 use native.Mathlib.Omega.{arith}
-use Rattle.desk.specs.declared.session.Desk.{Desk}
-use Rattle.desk.specs.States.{start, Sound}
+use Rattle.machine.specs.Pieces.{start}
+use Rattle.desk.specs.Prints.{holdings}
+use Rattle.desk.specs.States.{DeskStands}
+use Rattle.desk.proofs.Desks.{at-number}
 use Rattle.holdings.proofs.main.Statement.{statement}
 use Rattle.holdings.proofs.main.Tie as tie
 
 abbrev Inv-loop : tie.InvT-loop
-Inv-loop desk₀ turns₀ desk turns = Sound desk × (desk .number + turns * 4096 < 2 ^ 63)
+Inv-loop desk₀ turns₀ desk turns = DeskStands desk × (desk .line .number + turns * 4096 < 2 ^ 63)
 
 abbrev μ-loop : tie.MeasureT-loop
 μ-loop desk₀ turns₀ desk turns = turns
@@ -17,7 +18,7 @@ new-requires : tie.Need-new-requires Inv-loop μ-loop
 new-requires c κs = tt
 
 loop-holds : tie.Need-loop-holds Inv-loop μ-loop
-loop-holds c = ((start, c .new .ensures), omega (arith, ap (λ (d : Desk). d .number) (c .new .ensures .is)))
+loop-holds c = ((start holdings, c .new .ensures), omega (arith, at-number (start holdings) (c .new .ensures)))
 
 turn-requires : tie.Need-turn-requires Inv-loop μ-loop
 turn-requires c κs = (c .before .loop .inv .0, omega (arith, c .before .loop .inv .1))

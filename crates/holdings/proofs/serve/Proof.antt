@@ -1,4 +1,4 @@
--- The first bytes of the piece are taken (`Taken`); each call takes at least one more.
+-- The first bytes of the piece are taken (`Took`); each call takes at least one more.
 use Prim.Native.Nat.{ℕ, _+_, _-_, _<_, _≤_}
 use mathlib.Core.List.{List}
 use mathlib.Core.Bool.{true≢false}
@@ -6,14 +6,17 @@ use mathlib.Core.Path.{_≡_, sym, _∙_, subst}
 use native.Mathlib.Omega.{arith}
 use lib.Seq.{length-take-le, take-all}
 use lib.ListN.{length, take, drop}
-use Rattle.desk.proofs.Pieces.{taken-none, taken-number, rest-used, taken-more}
-use Rattle.desk.specs.States.{State, At, FedBy, Taken}
+use Rattle.machine.specs.Pieces.{Position}
+use Rattle.machine.proofs.Pieces.{rest-used}
+use Rattle.desk.specs.Prints.{holdings}
+use Rattle.desk.specs.States.{room, At, FedTo, Took}
+use Rattle.desk.proofs.Desks.{took-none, took-number, took-more}
 use Rattle.ground.proofs.Areas.{wrote-front}
 use Rattle.holdings.proofs.serve.Statement.{statement}
 use Rattle.holdings.proofs.serve.Tie as tie
 
 abbrev Inv-loop : tie.InvT-loop
-Inv-loop piece desk₀ out₀ at₀ desk out at = (at ≤ length piece) × (2048 ≡ length out) × ((s : State) → At desk₀ s → Taken s (take at piece) desk)
+Inv-loop piece desk₀ out₀ at₀ desk out at = (at ≤ length piece) × (room ≡ length out) × ((p : Position holdings) → At desk₀ p → Took p (take at piece) desk)
 
 abbrev μ-loop : tie.MeasureT-loop
 μ-loop piece desk₀ out₀ at₀ desk out at = length piece - at
@@ -21,17 +24,17 @@ abbrev μ-loop : tie.MeasureT-loop
 -- the desk at the head of the loop, and what the call on the rest of the piece did
 fed : (c : tie.After-feed Inv-loop μ-loop) →
     let w = c .before .before .before .before .loop .inv .2 (c .before .before .before .before .before .before .before .pre .0 .0) (c .before .before .before .before .before .before .before .pre .0 .1) in
-    FedBy (w .state) (take (length (c .before .before .before .before .before .before .before .args .piece .now) - c .before .before .before .before .loop .at) (drop (c .before .before .before .before .loop .at) (c .before .before .before .before .before .before .before .args .piece .now))) (c .before .before .before .before .loop .out) (c .feed .result) (c .feed .last .1 .1 .0)
-fed c = let w = c .before .before .before .before .loop .inv .2 (c .before .before .before .before .before .before .before .pre .0 .0) (c .before .before .before .before .before .before .before .pre .0 .1) in c .feed .ensures (w .state) (w .at)
+    FedTo (w .position) (take (length (c .before .before .before .before .before .before .before .args .piece .now) - c .before .before .before .before .loop .at) (drop (c .before .before .before .before .loop .at) (c .before .before .before .before .before .before .before .args .piece .now))) (c .before .before .before .before .loop .out) (c .feed .result) (c .feed .last .1 .1 .0)
+fed c = let w = c .before .before .before .before .loop .inv .2 (c .before .before .before .before .before .before .before .pre .0 .0) (c .before .before .before .before .before .before .before .pre .0 .1) in c .feed .ensures (w .position) (w .at)
 
 used : (c : tie.After-feed Inv-loop μ-loop) → (0 < c .feed .result .used) × (c .before .before .before .before .loop .at + c .feed .result .used ≤ length (c .before .before .before .before .before .before .before .args .piece .now))
-used c = rest-used (c .before .before .before .before .before .before .before .args .piece .now) (c .before .before .before .before .loop .at) (c .before .before .before .loop-test .taken) (fed c)
+used c = rest-used (c .before .before .before .before .before .before .before .args .piece .now) (c .before .before .before .before .loop .at) (fed c .fed) (c .before .before .before .loop-test .taken)
 
 room-requires : tie.Need-room-requires Inv-loop μ-loop
 room-requires c κs = tt
 
 loop-holds : tie.Need-loop-holds Inv-loop μ-loop
-loop-holds c = (omega arith, c .room .ensures, λ s at. taken-none at)
+loop-holds c = (omega arith, c .room .ensures, λ s at. took-none at)
 
 sub-feed : tie.Need-sub-feed Inv-loop μ-loop
 sub-feed c = omega arith
@@ -50,15 +53,15 @@ feed-requires c κs =
     let l = c .before .before .before .loop in
     let s = c .before .before .before .before .before .before in
     let w = l .inv .2 (s .pre .0 .0) (s .pre .0 .1) in
-    let n = taken-number (s .pre .0 .1) w in
+    let n = took-number (s .pre .0 .1) w in
     let k = length-take-le (l .at) (s .args .piece .now) (l .inv .0) in
-    ((w .state, w .at), omega (arith, n, s .pre .1, c .before .before .loop-test .taken), omega (arith, l .inv .1))
+    record { stands = (w .position, w .at); count = omega (arith, n, s .pre .1, c .before .before .loop-test .taken); space = omega (arith, l .inv .1) }
 
 array-share-prefix-out : tie.Need-array-share-prefix-out Inv-loop μ-loop
-array-share-prefix-out c = wrote-front (fed (c .before .before) .wrote) .1
+array-share-prefix-out c = wrote-front (fed (c .before .before) .fed .laid) .1
 
 slice-aggregate-write-all : tie.Need-slice-aggregate-write-all Inv-loop μ-loop
-slice-aggregate-write-all c = sym (length-take-le _ _ (wrote-front (fed (c .before .before .before) .wrote) .1))
+slice-aggregate-write-all c = sym (length-take-le _ _ (wrote-front (fed (c .before .before .before) .fed .laid) .1))
 
 write-all-requires : tie.Need-write-all-requires Inv-loop μ-loop
 write-all-requires c κs = tt
@@ -84,14 +87,14 @@ loop-again c =
     let l = c .before .before .before .before .before .before .before .before .before .before .before .before .loop in
     let s = c .before .before .before .before .before .before .before .before .before .before .before .before .before .before .before in
     let f = c .before .before .before .before .before .before .before .before .feed in
-    (p .1, l .inv .1 ∙ sym (f .kept .1 .1 .0), λ t at. let w = l .inv .2 t at in taken-more (s .args .piece .now) (l .at) w (f .ensures (w .state) (w .at)))
+    (p .1, l .inv .1 ∙ sym (f .kept .1 .1 .0), λ t at. let w = l .inv .2 t at in took-more (s .args .piece .now) (l .at) w (f .ensures (w .position) (w .at)))
 
 returns-3 : tie.Need-returns-3 Inv-loop μ-loop
 returns-3 c =
     λ e t at.
     let l = c .before .loop in
     let s = c .before .before .before .before in
-    subst (λ (x : List ℕ). Taken t x (l .desk)) (take-all (l .at) (s .args .piece .now) (omega arith)) (l .inv .2 t at)
+    subst (λ (x : List ℕ). Took t x (l .desk)) (take-all (l .at) (s .args .piece .now) (omega arith)) (l .inv .2 t at)
 
 pub serve-spec : {M : Type 1} → statement M
 serve-spec =

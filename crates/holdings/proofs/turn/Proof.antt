@@ -2,7 +2,7 @@
 use mathlib.Core.Bool.{true≢false}
 use native.Mathlib.Omega.{arith}
 use borrow.Author.Needs.{needs}
-use Rattle.desk.proofs.Pieces.{taken-number}
+use Rattle.desk.proofs.Desks.{took-number}
 use Rattle.holdings.proofs.turn.Statement.{statement}
 use Rattle.holdings.proofs.turn.Tie as tie
 
@@ -44,9 +44,9 @@ returns-3 c =
     λ e.
     let s = c .before .before .before .before .before .before .before .before .before .before in
     let w = c .serve .ensures e (s .pre .0 .0) (s .pre .0 .1) in
-    let n = taken-number (s .pre .0 .1) w in
+    let n = took-number (s .pre .0 .1) w in
     let k = c .before .before .before .count .ensures .0 in
-    ((w .state, w .at), omega (arith, n, k .0, k .1, c .before .before .before .before .before .before .before .read .kept .1 .0, c .before .before .before .before .before .before .before .before .before .buffer .ensures))
+    ((w .position, w .at), omega (arith, n, k .0, k .1, c .before .before .before .before .before .before .before .read .kept .1 .0, c .before .before .before .before .before .before .before .before .before .buffer .ensures))
 
 pub turn-spec : {M : Type 1} → statement M
 turn-spec =

@@ -1,21 +1,21 @@
--- The first i bytes are alike (`Alike`); a byte that is missing or another denies the beginning.
+-- The first i bytes are alike (`SameSoFar`); a byte that is missing or another denies the beginning.
 use Prim.Native.Nat.{_-_}
 use mathlib.Core.Path.{refl}
 use native.Mathlib.Omega.{arith}
 use lib.ListN.{length}
-use Rattle.lines.proofs.Verbs.{Alike, alike-none, alike-more, alike-all, begun-long, begun-byte}
+use Rattle.lines.proofs.Verbs.{SameSoFar, so-far-none, so-far-more, so-far-all, begun-long, begun-byte}
 use Rattle.ground.proofs.Cases.{decided-yes, decided-no}
 use Rattle.lines.proofs.begins.Statement.{statement}
 use Rattle.lines.proofs.begins.Tie as tie
 
 abbrev Inv-loop : tie.InvT-loop
-Inv-loop line verb i₀ i = Alike line verb i
+Inv-loop line verb i₀ i = SameSoFar line verb i
 
 abbrev μ-loop : tie.MeasureT-loop
 μ-loop line verb i₀ i = length verb - i
 
 loop-holds : tie.Need-loop-holds Inv-loop μ-loop
-loop-holds c = alike-none _ _
+loop-holds c = so-far-none _ _
 
 returns : tie.Need-returns Inv-loop μ-loop
 returns c = let a = c .before .before .before .args in decided-no refl (λ b. omega (arith, begun-long (a .verb .now) (a .line .now) b))
@@ -36,10 +36,10 @@ loop-less : tie.Need-loop-less Inv-loop μ-loop
 loop-less c = omega arith
 
 loop-again : tie.Need-loop-again Inv-loop μ-loop
-loop-again c = alike-more _ _ _ (c .before .before .before .before .before .loop .inv) (omega arith) (omega arith) (c .if2 .left)
+loop-again c = so-far-more _ _ _ (c .before .before .before .before .before .loop .inv) (omega arith) (omega arith) (c .if2 .left)
 
 returns-3 : tie.Need-returns-3 Inv-loop μ-loop
-returns-3 c = decided-yes refl (alike-all _ _ _ (c .before .loop .inv) (omega arith))
+returns-3 c = decided-yes refl (so-far-all _ _ _ (c .before .loop .inv) (omega arith))
 
 pub begins-spec : {M : Type 1} → statement M
 begins-spec =

@@ -1,14 +1,9 @@
 -- A verb that the line begins with settles it by what its part reads as; where it has none it says nothing.
-use mathlib.Core.List.{[]}
-use mathlib.Core.Path.{_≡_, refl, ap}
-use lib.ListN.{length}
+use mathlib.Core.Path.{refl}
 use borrow.Author.Needs.{needs}
-use Rattle.lines.specs.declared.Order.the-variants.{Unreadable}
-use Rattle.lines.proofs.Orders.{asked-in, asked-out, asked-recv, asked-gone, end-alone, asked-nothing}
+use Rattle.lines.proofs.Orders.{Verb, enter, leave, receive, withdraw, end, word, enters, leaves, receives, withdraws, enter-unsaid, leave-unsaid, receive-unsaid, withdraw-unsaid, asked-said, asked-unsaid, asked-end, asked-more, asked-nothing}
 use Rattle.lines.proofs.Verbs.{begun-long, behind}
-use Rattle.lines.specs.Words.{Asked, said, ends}
-use Rattle.ground.specs.Texts.{Begins}
-use Rattle.ground.specs.Texts.{ascii}
+use Rattle.ground.specs.Texts.{ascii, Begins}
 use Rattle.ground.proofs.Cases.{denied}
 use Rattle.lines.proofs.read.Statement.{statement}
 use Rattle.lines.proofs.read.Tie as tie
@@ -28,10 +23,12 @@ begun4 c = c .before .begins4 .ensures .yes (c .if4 .taken)
 begun5 : (c : tie.Then5) → Begins (ascii "end") (c .before .before .before .before .before .before .before .before .before .before .before .before .before .before .before .before .args .line .now)
 begun5 c = c .before .begins5 .ensures .yes (c .if5 .taken)
 
-unbegun : (c : tie.Else4) → (c .before .before .before .before .before .before .before .before .before .before .before .before .before .args .line .now ≡ ascii "end" → ⊥) → Asked (c .before .before .before .before .before .before .before .before .before .before .before .before .before .args .m) (c .before .before .before .before .before .before .before .before .before .before .before .before .before .args .line .now) Unreadable
-unbegun c n =
-    asked-nothing _ _ (denied (c .before .before .before .before .before .before .before .before .before .before .begins .ensures) (c .before .before .before .before .before .before .before .before .before .if1 .left)) (denied (c .before .before .before .before .before .before .before .begins2 .ensures) (c .before .before .before .before .before .before .if2 .left))
-    (denied (c .before .before .before .before .begins3 .ensures) (c .before .before .before .if3 .left)) (denied (c .before .begins4 .ensures) (c .if4 .left)) n
+unbegun : (c : tie.Else5) (v : Verb) → Begins (word v) (c .before .before .before .before .before .before .before .before .before .before .before .before .before .before .before .before .args .line .now) → ⊥
+unbegun c enter = denied (c .before .before .before .before .before .before .before .before .before .before .before .before .before .begins .ensures) (c .before .before .before .before .before .before .before .before .before .before .before .before .if1 .left)
+unbegun c leave = denied (c .before .before .before .before .before .before .before .before .before .before .begins2 .ensures) (c .before .before .before .before .before .before .before .before .before .if2 .left)
+unbegun c receive = denied (c .before .before .before .before .before .before .before .begins3 .ensures) (c .before .before .before .before .before .before .if3 .left)
+unbegun c withdraw = denied (c .before .before .before .before .begins4 .ensures) (c .before .before .before .if4 .left)
+unbegun c end = denied (c .before .begins5 .ensures) (c .if5 .left)
 
 slice-aggregate-begins : tie.Need-slice-aggregate-begins
 slice-aggregate-begins c = search needs
@@ -51,11 +48,17 @@ part-read-pattern-end c = search needs
 read-pattern-requires : tie.Need-read-pattern-requires
 read-pattern-requires c κs = search needs
 
-enter-requires : tie.Need-enter-requires
-enter-requires c κs = search needs
+enum-known-p : tie.Need-enum-known-p
+enum-known-p c = search needs
+
+enum-told : tie.Need-enum-told
+enum-told c = search needs
 
 returns : tie.Need-returns
-returns c = rw (c .enter .ensures) (asked-in (behind (ascii "in ") _ 3 (begun1 (c .before .before .before)) refl) (c .before .read-pattern .ensures))
+returns c = asked-unsaid enter _ (behind (ascii "in ") _ 3 (begun1 (c .before .before .before .before)) refl) (enter-unsaid (rw (c .enum-told .given .1) at (c .before .before .read-pattern .ensures)))
+
+returns-2 : tie.Need-returns-2
+returns-2 c = asked-said enter (behind (ascii "in ") _ 3 (begun1 (c .before .before .before .before .before)) refl) (enters (rw (c .before .p .given .1) at (c .before .before .before .read-pattern .ensures)))
 
 slice-aggregate-begins-2 : tie.Need-slice-aggregate-begins-2
 slice-aggregate-begins-2 c = search needs
@@ -75,11 +78,17 @@ part-read-pattern-end-2 c = search needs
 read-pattern-requires-2 : tie.Need-read-pattern-requires-2
 read-pattern-requires-2 c κs = search needs
 
-leave-requires : tie.Need-leave-requires
-leave-requires c κs = search needs
+enum-known-p-2 : tie.Need-enum-known-p-2
+enum-known-p-2 c = search needs
 
-returns-2 : tie.Need-returns-2
-returns-2 c = rw (c .leave .ensures) (asked-out (behind (ascii "out ") _ 4 (begun2 (c .before .before .before)) refl) (c .before .read-pattern2 .ensures))
+enum-told-2 : tie.Need-enum-told-2
+enum-told-2 c = search needs
+
+returns-3 : tie.Need-returns-3
+returns-3 c = asked-unsaid leave _ (behind (ascii "out ") _ 4 (begun2 (c .before .before .before .before)) refl) (leave-unsaid (rw (c .enum-told2 .given .1) at (c .before .before .read-pattern2 .ensures)))
+
+returns-4 : tie.Need-returns-4
+returns-4 c = asked-said leave (behind (ascii "out ") _ 4 (begun2 (c .before .before .before .before .before)) refl) (leaves (rw (c .before .p2 .given .1) at (c .before .before .before .read-pattern2 .ensures)))
 
 slice-aggregate-begins-3 : tie.Need-slice-aggregate-begins-3
 slice-aggregate-begins-3 c = search needs
@@ -99,11 +108,17 @@ part-read-amount-end c = search needs
 read-amount-requires : tie.Need-read-amount-requires
 read-amount-requires c κs = search needs
 
-receive-requires : tie.Need-receive-requires
-receive-requires c κs = search needs
+enum-known-a : tie.Need-enum-known-a
+enum-known-a c = search needs
 
-returns-3 : tie.Need-returns-3
-returns-3 c = rw (c .receive .ensures) (asked-recv (behind (ascii "recv ") _ 5 (begun3 (c .before .before .before)) refl) (c .before .read-amount .ensures))
+enum-told-3 : tie.Need-enum-told-3
+enum-told-3 c = search needs
+
+returns-5 : tie.Need-returns-5
+returns-5 c = asked-unsaid receive _ (behind (ascii "recv ") _ 5 (begun3 (c .before .before .before .before)) refl) (receive-unsaid (rw (c .enum-told3 .given .1) at (c .before .before .read-amount .ensures)))
+
+returns-6 : tie.Need-returns-6
+returns-6 c = asked-said receive (behind (ascii "recv ") _ 5 (begun3 (c .before .before .before .before .before)) refl) (receives (rw (c .before .a .given .1) at (c .before .before .before .read-amount .ensures)))
 
 slice-aggregate-begins-4 : tie.Need-slice-aggregate-begins-4
 slice-aggregate-begins-4 c = search needs
@@ -123,11 +138,17 @@ part-read-amount-end-2 c = search needs
 read-amount-requires-2 : tie.Need-read-amount-requires-2
 read-amount-requires-2 c κs = search needs
 
-withdraw-requires : tie.Need-withdraw-requires
-withdraw-requires c κs = search needs
+enum-known-a-2 : tie.Need-enum-known-a-2
+enum-known-a-2 c = search needs
 
-returns-4 : tie.Need-returns-4
-returns-4 c = rw (c .withdraw .ensures) (asked-gone (behind (ascii "gone ") _ 5 (begun4 (c .before .before .before)) refl) (c .before .read-amount2 .ensures))
+enum-told-4 : tie.Need-enum-told-4
+enum-told-4 c = search needs
+
+returns-7 : tie.Need-returns-7
+returns-7 c = asked-unsaid withdraw _ (behind (ascii "gone ") _ 5 (begun4 (c .before .before .before .before)) refl) (withdraw-unsaid (rw (c .enum-told4 .given .1) at (c .before .before .read-amount2 .ensures)))
+
+returns-8 : tie.Need-returns-8
+returns-8 c = asked-said withdraw (behind (ascii "gone ") _ 5 (begun4 (c .before .before .before .before .before)) refl) (withdraws (rw (c .before .a2 .given .1) at (c .before .before .before .read-amount2 .ensures)))
 
 slice-aggregate-begins-5 : tie.Need-slice-aggregate-begins-5
 slice-aggregate-begins-5 c = search needs
@@ -135,14 +156,14 @@ slice-aggregate-begins-5 c = search needs
 begins-requires-5 : tie.Need-begins-requires-5
 begins-requires-5 c κs = search needs
 
-returns-5 : tie.Need-returns-5
-returns-5 c = said (ends (end-alone (c .before .before .before .before .before .before .before .before .before .before .before .before .before .before .before .before .before .args .m) _ (begun5 (c .before)) (c .if6 .taken)))
+returns-9 : tie.Need-returns-9
+returns-9 c = asked-end (begun5 (c .before)) (c .if6 .taken)
 
-returns-6 : tie.Need-returns-6
-returns-6 c = unbegun (c .before .before .before .before) (λ e. c .if6 .left (ap length e))
+returns-10 : tie.Need-returns-10
+returns-10 c = asked-more (begun5 (c .before)) (c .if6 .left)
 
-returns-7 : tie.Need-returns-7
-returns-7 c = unbegun (c .before .before .before) (λ e. denied (c .before .begins5 .ensures) (c .if5 .left) ([], e))
+returns-11 : tie.Need-returns-11
+returns-11 c = asked-nothing _ _ (unbegun c)
 
 pub read-spec : {M : Type 1} → statement M
 read-spec =
@@ -154,34 +175,42 @@ read-spec =
     part-read-pattern-start
     part-read-pattern-end
     read-pattern-requires
-    enter-requires
+    enum-known-p
+    enum-told
     returns
+    returns-2
     slice-aggregate-begins-2
     begins-requires-2
     sub-read-pattern-2
     part-read-pattern-start-2
     part-read-pattern-end-2
     read-pattern-requires-2
-    leave-requires
-    returns-2
+    enum-known-p-2
+    enum-told-2
+    returns-3
+    returns-4
     slice-aggregate-begins-3
     begins-requires-3
     sub-read-amount
     part-read-amount-start
     part-read-amount-end
     read-amount-requires
-    receive-requires
-    returns-3
+    enum-known-a
+    enum-told-3
+    returns-5
+    returns-6
     slice-aggregate-begins-4
     begins-requires-4
     sub-read-amount-2
     part-read-amount-start-2
     part-read-amount-end-2
     read-amount-requires-2
-    withdraw-requires
-    returns-4
+    enum-known-a-2
+    enum-told-4
+    returns-7
+    returns-8
     slice-aggregate-begins-5
     begins-requires-5
-    returns-5
-    returns-6
-    returns-7)
+    returns-9
+    returns-10
+    returns-11)

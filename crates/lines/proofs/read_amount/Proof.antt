@@ -1,16 +1,10 @@
 -- Each way out is the law of what was tested; the part behind the space goes to the reader of times.
-use Prim.Native.Nat.{_-_, _+_}
-use mathlib.Core.Path.{sym, subst}
+use Prim.Native.Nat.{_-_}
+use mathlib.Core.Path.{sym}
 use native.Mathlib.Omega.{arith}
 use lib.Seq.{length-take-le}
-use lib.ListN.{take, drop, length}
 use borrow.Author.Needs.{needs}
 use Rattle.lines.proofs.Orders.{amount-short, amount-unspaced, amount-unnamed, amount-untimed, amount-read}
-use Rattle.lines.specs.Words.{Patterned}
-use Rattle.lines.specs.declared.Pattern.{Pattern}
-use Rattle.times.specs.Places.{ReadsAs}
-use Rattle.times.specs.Texts.{Readable}
-use Rattle.times.specs.declared.Time.{Time}
 use Rattle.lines.proofs.read_amount.Statement.{statement}
 use Rattle.lines.proofs.read_amount.Tie as tie
 
@@ -36,7 +30,7 @@ enum-told : tie.Need-enum-told
 enum-told c = search needs
 
 returns-3 : tie.Need-returns-3
-returns-3 c = amount-unnamed _ _ (subst (λ (p : Pattern). Patterned (c .before .before .before .before .before .before .before .before .args .m) (take (c .before .before .before .before .before .before .before .before .args .m) (c .before .before .before .before .before .before .before .before .args .part .now)) p) (c .enum-told .given .1) (c .before .before .read-pattern .ensures))
+returns-3 c = amount-unnamed _ _ (rw (c .enum-told .given .1) at (c .before .before .read-pattern .ensures))
 
 add-after : tie.Need-add-after
 add-after c = search needs
@@ -60,14 +54,14 @@ enum-told-2 : tie.Need-enum-told-2
 enum-told-2 c = search needs
 
 returns-4 : tie.Need-returns-4
-returns-4 c = amount-untimed _ _ (subst (λ (t : Time). ReadsAs Readable (take (length (c .before .before .before .before .before .before .before .before .before .before .before .before .before .args .part .now) - (c .before .before .before .before .before .before .before .before .before .before .before .before .before .args .m + 1)) (drop (c .before .before .before .before .before .before .before .before .before .before .before .before .before .args .m + 1) (c .before .before .before .before .before .before .before .before .before .before .before .before .before .args .part .now))) t) (c .enum-told2 .given .1) (c .before .before .read .ensures))
+returns-4 c = amount-untimed _ _ (rw (c .enum-told2 .given .1) at (c .before .before .read .ensures))
 
 returns-5 : tie.Need-returns-5
 returns-5 c =
     let s = c .before .before .before .before .before .before .before .before .before .before .before .before .before .before .args in
     amount-read (s .m) (s .part .now) (omega arith) (c .before .before .before .before .before .before .before .before .before .before .if2 .left)
-    (subst (λ (p : Pattern). Patterned (s .m) (take (s .m) (s .part .now)) p) (c .before .before .before .before .before .before .pattern .given .1) (c .before .before .before .before .before .before .before .before .read-pattern .ensures))
-    (subst (λ (t : Time). ReadsAs Readable (take (length (s .part .now) - (s .m + 1)) (drop (s .m + 1) (s .part .now))) t) (c .before .time .given .1) (c .before .before .before .read .ensures))
+    (rw (c .before .before .before .before .before .before .pattern .given .1) at (c .before .before .before .before .before .before .before .before .read-pattern .ensures))
+    (rw (c .before .time .given .1) at (c .before .before .before .read .ensures))
 
 pub read-amount-spec : {M : Type 1} → statement M
 read-amount-spec =

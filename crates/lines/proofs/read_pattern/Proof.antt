@@ -1,15 +1,15 @@
--- The first i characters write n (`Front`); another length or another character is no pattern.
-use Prim.Native.Nat.{ℕ, _≤_, _-_}
-use mathlib.Core.Path.{_≡_, subst}
+-- The last i characters write n (`Tail`); another length or another character is no pattern.
+use Prim.Native.Nat.{ℕ, _+_, _≤_, _-_}
+use mathlib.Core.Path.{_≡_, sym, subst}
 use native.Mathlib.Omega.{arith}
 use lib.ListN.{length}
 use borrow.Author.Needs.{needs}
-use Rattle.lines.proofs.Patterns.{Front, front-none, front-more, front-fits, pattern-long, pattern-other, pattern-read}
+use Rattle.lines.proofs.Patterns.{Tail, tail-none, tail-more, pattern-long, pattern-other, pattern-read}
 use Rattle.lines.proofs.read_pattern.Statement.{statement}
 use Rattle.lines.proofs.read_pattern.Tie as tie
 
 abbrev Inv-loop : tie.InvT-loop
-Inv-loop part m n₀ i₀ n i = (length part ≡ m) × (i ≤ m) × Front part i n
+Inv-loop part m n₀ i₀ n i = (length part ≡ m) × (i ≤ m) × Tail part m i n
 
 abbrev μ-loop : tie.MeasureT-loop
 μ-loop part m n₀ i₀ n i = m - i
@@ -18,28 +18,31 @@ returns : tie.Need-returns Inv-loop μ-loop
 returns c = pattern-long _ _ (c .if1 .taken)
 
 loop-holds : tie.Need-loop-holds Inv-loop μ-loop
-loop-holds c = (c .if1 .left, omega arith, front-none _)
+loop-holds c = (c .if1 .left, omega arith, tail-none _ _ (c .if1 .left))
+
+sub-c : tie.Need-sub-c Inv-loop μ-loop
+sub-c c = omega arith
+
+sub-c-2 : tie.Need-sub-c-2 Inv-loop μ-loop
+sub-c-2 c = omega arith
 
 shared-slice-read-c : tie.Need-shared-slice-read-c Inv-loop μ-loop
 shared-slice-read-c c = omega (arith, c .before .before .loop .inv .0)
 
 returns-2 : tie.Need-returns-2 Inv-loop μ-loop
-returns-2 c = pattern-other _ _ (c .before .before .before .loop .i) (omega arith) (λ w. omega (arith, w .0))
+returns-2 c = let a = c .before .before .before .before .before .before .args in pattern-other _ _ (a .m - 1 - c .before .before .before .loop .i) (omega arith) (λ w. omega (arith, w .0))
 
 returns-3 : tie.Need-returns-3 Inv-loop μ-loop
-returns-3 c = pattern-other _ _ (c .before .before .before .before .loop .i) (omega arith) (λ w. omega (arith, w .1))
-
-mul-n : tie.Need-mul-n Inv-loop μ-loop
-mul-n c = let l = c .before .before .before .before .loop in omega (arith, front-fits _ _ _ _ (l .inv .2) (l .inv .1) (c .before .before .before .before .before .before .before .pre))
+returns-3 c = let a = c .before .before .before .before .before .before .before .args in pattern-other _ _ (a .m - 1 - c .before .before .before .before .loop .i) (omega arith) (λ w. omega (arith, w .1))
 
 byte-requires : tie.Need-byte-requires Inv-loop μ-loop
 byte-requires c κs = search needs
 
-sub-n : tie.Need-sub-n Inv-loop μ-loop
-sub-n c = omega (arith, c .byte .ensures .0)
+sub-with-mark : tie.Need-sub-with-mark Inv-loop μ-loop
+sub-with-mark c = omega (arith, c .byte .ensures .0)
 
-add-n : tie.Need-add-n Inv-loop μ-loop
-add-n c = let l = c .before .before .before .before .before .loop in omega (arith, c .byte .ensures .0, front-fits _ _ _ _ (l .inv .2) (l .inv .1) (c .before .before .before .before .before .before .before .before .pre))
+with-mark-requires : tie.Need-with-mark-requires Inv-loop μ-loop
+with-mark-requires c κs = let l = c .before .before .before .before .before .loop in (omega arith, l .inv .2 .small, omega (arith, c .byte .ensures .0))
 
 add-i : tie.Need-add-i Inv-loop μ-loop
 add-i c = omega arith
@@ -48,10 +51,21 @@ loop-less : tie.Need-loop-less Inv-loop μ-loop
 loop-less c = omega arith
 
 loop-again : tie.Need-loop-again Inv-loop μ-loop
-loop-again c = let l = c .before .before .before .before .before .loop in (l .inv .0, omega arith, front-more _ (l .i) (l .n) _ (l .inv .2) (omega (arith, l .inv .0)) (omega (arith, c .byte .ensures .0)) (omega (arith, c .byte .ensures .0)))
+loop-again c =
+    let l = c .before .before .before .before .before .before .loop in
+    let a = c .before .before .before .before .before .before .before .before .before .args in (
+      l .inv .0,
+      omega arith,
+      subst (Tail (a .part .now) (a .m) (l .i + 1)) (sym (c .with-mark .ensures .0))
+          (tail-more (a .part .now) (a .m) (l .i) (l .n) _ (l .inv .2) (omega arith) (l .inv .0) (omega (arith, c .before .byte .ensures .0)) (omega (arith, c .before .byte .ensures .0))),
+    )
 
 returns-4 : tie.Need-returns-4 Inv-loop μ-loop
-returns-4 c = let l = c .before .loop in pattern-read _ _ (l .n) (l .inv .0) (subst (λ (x : ℕ). Front (c .before .before .before .before .args .part .now) x (l .n)) (omega arith) (l .inv .2))
+returns-4 c =
+    let l = c .before .loop in
+    let a = c .before .before .before .before .args in
+    let e : l .i ≡ a .m = omega arith in
+    pattern-read (a .m) (a .part .now) (l .n) (subst (λ (x : ℕ). Tail (a .part .now) (a .m) x (l .n)) e (l .inv .2))
 
 pub read-pattern-spec : {M : Type 1} → statement M
 read-pattern-spec =
@@ -61,13 +75,14 @@ read-pattern-spec =
     μ-loop
     returns
     loop-holds
+    sub-c
+    sub-c-2
     shared-slice-read-c
     returns-2
     returns-3
-    mul-n
     byte-requires
-    sub-n
-    add-n
+    sub-with-mark
+    with-mark-requires
     add-i
     loop-less
     loop-again

@@ -9,6 +9,7 @@ use lib.Dec.{eqb, lit<}
 use lib.Bits.{bitOr, or-shifted-r}
 use borrow.Author.Needs.{needs}
 use borrow.Author.Tests.{eq-eqb, ne-eqb}
+use Rattle.sheet.specs.Limits.{entries}
 use Rattle.listing.proofs.Filled.{inside, Filled, filled-none, filled-in, filled-out, filled-all}
 use Rattle.tables.specs.Tables.{entry, own}
 use Rattle.listing.proofs.class_bits.Statement.{statement}
@@ -23,21 +24,15 @@ abbrev μ-loop : tie.MeasureT-loop
 few : (c : tie.In-loop Inv-loop μ-loop) → c .before .loop .c < 32
 few c = omega (arith, c .before .loop .inv .1, pow-le-pow-right {n = 2} (omega arith) {i = c .before .before .before .before .args .m} {j = 5} (omega arith))
 
-small : (c : tie.After-single Inv-loop μ-loop) → c .single .result < 243
+small : (c : tie.After-single Inv-loop μ-loop) → c .single .result < entries
 small c = omega (arith, c .single .ensures .1, pow-le-pow-right {n = 3} (omega arith) {i = c .before .before .before .before .before .args .m} {j = 5} (omega arith))
 
 own-is : (c : tie.After-shared-slice-known2 Inv-loop μ-loop)
     → let a = c .before .before .before .before .before .before .args in entry (a .outside .now) (c .before .single .result) ≡ own (a .m) (a .outside .now) (c .before .before .before .loop .c)
 own-is c = ap (entry (c .before .before .before .before .before .before .args .outside .now)) (c .before .single .ensures .0)
 
-power2-requires : tie.Need-power2-requires Inv-loop μ-loop
-power2-requires c κs = search needs
-
 loop-holds : tie.Need-loop-holds Inv-loop μ-loop
 loop-holds c = (omega arith, c .power2 .ensures .0, filled-none _)
-
-single-requires : tie.Need-single-requires Inv-loop μ-loop
-single-requires c κs = search needs
 
 mul-if1 : tie.Need-mul-if1 Inv-loop μ-loop
 mul-if1 c = omega (arith, small c)
@@ -50,12 +45,6 @@ cast-class c = omega (arith, few (c .before .before .before))
 
 shl-class : tie.Need-shl-class Inv-loop μ-loop
 shl-class c = omega (arith, few (c .before .before .before))
-
-add-c : tie.Need-add-c Inv-loop μ-loop
-add-c c = search needs
-
-loop-less : tie.Need-loop-less Inv-loop μ-loop
-loop-less c = search needs
 
 loop-again : tie.Need-loop-again Inv-loop μ-loop
 loop-again c =
@@ -82,19 +71,6 @@ returns c =
     (f .small, filled-all f)
 
 pub class-bits-spec : {M : Type 1} → statement M
-class-bits-spec =
-    tie.close
-    (tie.spec
-    Inv-loop
-    μ-loop
-    power2-requires
-    loop-holds
-    single-requires
-    mul-if1
-    shared-slice-read-if1
-    cast-class
-    shl-class
-    add-c
-    loop-less
-    loop-again
-    returns)
+class-bits-spec = tie.close (tie.spec
+    Inv-loop μ-loop (λ c κs. search needs) loop-holds (λ c κs. search needs) mul-if1 shared-slice-read-if1 cast-class
+    shl-class (λ c. search needs) (λ c. search needs) loop-again returns)

@@ -18,24 +18,12 @@ Inv-loop m outside held n total₀ c₀ total c = (c ≤ n) × (n ≡ 2 ^ m) × 
 abbrev μ-loop : tie.MeasureT-loop
 μ-loop m outside held n total₀ c₀ total c = n - c
 
-power2-requires : tie.Need-power2-requires Inv-loop μ-loop
-power2-requires c κs = search needs
-
 loop-holds : tie.Need-loop-holds Inv-loop μ-loop
 unfolding sum
 loop-holds c = (omega arith, c .power2 .ensures .0, omega arith, refl)
 
-seconds-of-requires : tie.Need-seconds-of-requires Inv-loop μ-loop
-seconds-of-requires c κs = search needs
-
 add-total : tie.Need-add-total Inv-loop μ-loop
 add-total c = omega (arith, c .seconds-of .ensures .1, pow-le-pow-right {n = 2} (omega arith) {i = c .before .before .before .before .before .before .args .m} {j = 5} (omega arith))
-
-add-c : tie.Need-add-c Inv-loop μ-loop
-add-c c = search needs
-
-loop-less : tie.Need-loop-less Inv-loop μ-loop
-loop-less c = search needs
 
 loop-again : tie.Need-loop-again Inv-loop μ-loop
 unfolding sum
@@ -53,16 +41,6 @@ returns c =
     l .inv .3 ∙ ap (λ (n : ℕ). sum n (taken (classOf (a .m) (a .outside .now)) (own (a .m) (a .held .now)))) e
 
 pub in-class-spec : {M : Type 1} → statement M
-in-class-spec =
-    tie.close
-    (tie.spec
-    Inv-loop
-    μ-loop
-    power2-requires
-    loop-holds
-    seconds-of-requires
-    add-total
-    add-c
-    loop-less
-    loop-again
-    returns)
+in-class-spec = tie.close (tie.spec
+    Inv-loop μ-loop (λ c κs. search needs) loop-holds (λ c κs. search needs) add-total (λ c. search needs)
+    (λ c. search needs) loop-again returns)

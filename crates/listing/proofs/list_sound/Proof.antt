@@ -5,14 +5,15 @@ use lib.ListN.{length}
 use borrow.Author.Needs.{needs}
 use Rattle.listing.specs.Listing.Listed.{short, searched}
 use Rattle.sheet.proofs.Tests.{marks-most}
+use Rattle.sheet.specs.Limits.{entries, mostMarks}
 use Rattle.listing.proofs.list_sound.Statement.{statement}
 use Rattle.listing.proofs.list_sound.Tie as tie
 
-long : (c : tie.Start) → length (c .args .sheet .outside) ≡ 243
+long : (c : tie.Start) → length (c .args .sheet .outside) ≡ entries
 long c = search needs
 
 power2-requires : tie.Need-power2-requires
-power2-requires c κs = omega (arith, marks-most 5 _ (c .before .before .pre .marks))
+power2-requires c κs = omega (arith, marks-most mostMarks _ (c .before .before .pre .marks))
 
 returns : tie.Need-returns
 returns c = short (c .before .before .before .before .pre) (omega (arith, c .before .power2 .ensures .0))
@@ -23,7 +24,7 @@ slice-aggregate-searched c = search needs
 searched-requires : tie.Need-searched-requires
 searched-requires c κs =
     let s = c .before .before .before .before .before .before in
-    (marks-most 5 _ (s .pre .marks), omega (arith, long s), omega (arith, c .before .before .before .power2 .ensures .0))
+    (marks-most mostMarks _ (s .pre .marks), omega (arith, long s), omega (arith, c .before .before .before .power2 .ensures .0))
 
 same-length : tie.Need-same-length
 same-length c = search needs

@@ -12,41 +12,26 @@ use Rattle.listing.proofs.searched.Tie as tie
 sought : (c : tie.After-k) → Sought (c .before .before .before .before .before .before .before .before .before .before .args .m) (has (c .before .before .before .before .before .before .before .class-bits .result)) (has (c .before .before .before .before .before .before .before .class-bits .result)) (Boxes (c .k .given .0 .0)) (c .before .before .before .shortest .last .1 .1 .1 .0)
 sought c = said _ _ _ _ _ (c .before .before .before .shortest .ensures) (c .k .given .1)
 
-class-bits-requires : tie.Need-class-bits-requires
-class-bits-requires c κs = search needs
-
-own-area-requires : tie.Need-own-area-requires
-own-area-requires c κs = search needs
-
-power2-requires : tie.Need-power2-requires
-power2-requires c κs = search needs
-
 array-borrow-prefix-own : tie.Need-array-borrow-prefix-own
-array-borrow-prefix-own c = omega (arith, c .power2 .ensures .0, c .before .own-area .ensures, pow-le-pow-right {n = 2} (omega arith) {i = c .before .before .before .before .before .args .m} {j = 5} (omega arith))
+array-borrow-prefix-own c = omega (arith, c .power2 .ensures .0, c .before .area .ensures, pow-le-pow-right {n = 2} (omega arith) {i = c .before .before .before .before .before .args .m} {j = 5} (omega arith))
 
 slice-aggregate-shortest : tie.Need-slice-aggregate-shortest
-slice-aggregate-shortest c = simp length-take (omega (arith, c .before .power2 .ensures .0, c .before .before .own-area .ensures, pow-le-pow-right {n = 2} (omega arith) {i = c .before .before .before .before .before .before .args .m} {j = 5} (omega arith)))
+slice-aggregate-shortest c = simp length-take (omega (arith, c .before .power2 .ensures .0, c .before .before .area .ensures, pow-le-pow-right {n = 2} (omega arith) {i = c .before .before .before .before .before .before .args .m} {j = 5} (omega arith)))
 
 shortest-requires : tie.Need-shortest-requires
-shortest-requires c κs = (c .before .before .before .before .before .before .pre .0, c .before .before .before .class-bits .ensures .0, simp length-take (omega (arith, c .before .power2 .ensures .0, c .before .before .own-area .ensures, pow-le-pow-right {n = 2} (omega arith) {i = c .before .before .before .before .before .before .args .m} {j = 5} (omega arith))))
-
-enum-known-k : tie.Need-enum-known-k
-enum-known-k c = search needs
+shortest-requires c κs = (c .before .before .before .before .before .before .pre .0, c .before .before .before .class-bits .ensures .0, simp length-take (omega (arith, c .before .power2 .ensures .0, c .before .before .area .ensures, pow-le-pow-right {n = 2} (omega arith) {i = c .before .before .before .before .before .before .args .m} {j = 5} (omega arith))))
 
 array-share-prefix-own : tie.Need-array-share-prefix-own
-array-share-prefix-own c = front-fits _ (c .before .before .before .before .before .shortest .last .1 .1 .1 .0) (drop (c .before .before .before .before .before .before .before .power2 .result) (c .before .before .before .before .before .before .before .before .own-area .result)) (sought (c .before .before) .0)
+array-share-prefix-own c = front-fits _ (c .before .before .before .before .before .shortest .last .1 .1 .1 .0) (drop (c .before .before .before .before .before .before .before .power2 .result) (c .before .before .before .before .before .before .before .before .area .result)) (sought (c .before .before) .0)
 
 slice-aggregate-put : tie.Need-slice-aggregate-put
-slice-aggregate-put c = front-size _ (c .before .before .before .before .before .before .shortest .last .1 .1 .1 .0) (drop (c .before .before .before .before .before .before .before .before .power2 .result) (c .before .before .before .before .before .before .before .before .before .own-area .result)) (sought (c .before .before .before) .0)
+slice-aggregate-put c = front-size _ (c .before .before .before .before .before .before .shortest .last .1 .1 .1 .0) (drop (c .before .before .before .before .before .before .before .before .power2 .result) (c .before .before .before .before .before .before .before .before .before .area .result)) (sought (c .before .before .before) .0)
 
 put-requires : tie.Need-put-requires
 put-requires c κs =
     let k = c .before .before .before in
     let lent = simp length-take at (c .before .before .before .before .before .before .shortest .kept .1 .1 .1 .0) in
-    omega (arith, front-size _ (c .before .before .before .before .before .before .shortest .last .1 .1 .1 .0) (drop (c .before .before .before .before .before .before .before .before .power2 .result) (c .before .before .before .before .before .before .before .before .before .own-area .result)) (sought k .0), sought k .0, lent, c .before .before .before .before .before .before .before .before .power2 .ensures .0, c .before .before .before .before .before .before .before .before .before .before .before .before .before .pre .2)
-
-enum-told : tie.Need-enum-told
-enum-told c = search needs
+    omega (arith, front-size _ (c .before .before .before .before .before .before .shortest .last .1 .1 .1 .0) (drop (c .before .before .before .before .before .before .before .before .power2 .result) (c .before .before .before .before .before .before .before .before .before .area .result)) (sought k .0), sought k .0, lent, c .before .before .before .before .before .before .before .before .power2 .ensures .0, c .before .before .before .before .before .before .before .before .before .before .before .before .before .pre .2)
 
 same-length : tie.Need-same-length
 same-length c = c .before .before .put .kept .0
@@ -58,20 +43,7 @@ returns-2 : tie.Need-returns-2
 returns-2 c = searched-none _ _ _ (c .before .before .before .before .before .before .before .class-bits .ensures .1) _ (c .before .before .before .shortest .last .1 .1 .1 .0) (said _ _ (c .before .before .before .shortest .last .1 .1 .1 .0) _ _ (c .before .before .before .shortest .ensures) (c .enum-told .given .1))
 
 pub searched-spec : {M : Type 1} → statement M
-searched-spec =
-    tie.close
-    (tie.spec
-    class-bits-requires
-    own-area-requires
-    power2-requires
-    array-borrow-prefix-own
-    slice-aggregate-shortest
-    shortest-requires
-    enum-known-k
-    array-share-prefix-own
-    slice-aggregate-put
-    put-requires
-    enum-told
-    same-length
-    returns
-    returns-2)
+searched-spec = tie.close (tie.spec
+    (λ c κs. search needs) (λ c κs. search needs) (λ c κs. search needs) array-borrow-prefix-own
+    slice-aggregate-shortest shortest-requires (λ c. search needs) array-share-prefix-own slice-aggregate-put
+    put-requires (λ c. search needs) same-length returns returns-2)

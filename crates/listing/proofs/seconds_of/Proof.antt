@@ -4,12 +4,13 @@ use native.Mathlib.Omega.{arith}
 use native.Mathlib.Nat.{pow-le-pow-right}
 use borrow.Author.Tests.{eq-eqb, ne-eqb}
 use borrow.Author.Needs.{needs}
+use Rattle.sheet.specs.Limits.{entries}
 use Rattle.listing.proofs.Filled.{taken-is}
 use Rattle.tables.specs.Tables.{entry}
 use Rattle.listing.proofs.seconds_of.Statement.{statement}
 use Rattle.listing.proofs.seconds_of.Tie as tie
 
-small : (c : tie.After-single) → c .single .result < 243
+small : (c : tie.After-single) → c .single .result < entries
 small c = omega (arith, c .single .ensures .1, pow-le-pow-right {n = 3} (omega arith) {i = c .before .before .before .args .m} {j = 5} (omega arith))
 
 single-requires : tie.Need-single-requires

@@ -4,10 +4,11 @@ use native.Mathlib.Omega.{arith}
 use lib.ListN.{length}
 use borrow.Author.Needs.{needs}
 use Rattle.sheet.proofs.Tests.{marks-most}
+use Rattle.sheet.specs.Limits.{entries, mostMarks}
 use Rattle.listing.proofs.total_sound.Statement.{statement}
 use Rattle.listing.proofs.total_sound.Tie as tie
 
-long : (c : tie.Start) → (length (c .args .sheet .outside) ≡ 243) × (length (c .args .sheet .held) ≡ 243)
+long : (c : tie.Start) → (length (c .args .sheet .outside) ≡ entries) × (length (c .args .sheet .held) ≡ entries)
 long c = (search needs, search needs)
 
 slice-aggregate-in-class : tie.Need-slice-aggregate-in-class
@@ -19,7 +20,7 @@ slice-aggregate-in-class-2 c = search needs
 in-class-requires : tie.Need-in-class-requires
 in-class-requires c κs =
     let s = c .before .before .before .before in
-    (marks-most 5 _ (s .pre .marks), omega (arith, long s .0), omega (arith, long s .1))
+    (marks-most mostMarks _ (s .pre .marks), omega (arith, long s .0), omega (arith, long s .1))
 
 returns : tie.Need-returns
 returns c = c .in-class .ensures

@@ -49,25 +49,10 @@ all-good c = then-run (past-held (c .before)) (all-read (c .before .before .befo
 bytes-known : (c : tie.After-shared-slice-known2) → Bytes (c .before .before .before .args .bytes .now)
 bytes-known c i = omega (arith, c .shared-slice-known2 .given i)
 
-refused-requires : tie.Need-refused-requires
-refused-requires c κs = search needs
-
 returns : tie.Need-returns
 returns c =
     let t = c .before .before .before .args .bytes .now in
     refusal t 10 0 (c .refused .ensures) (subst (λ (p : ℕ). Reading mostMarks t (refused 10 p)) (c .before .if1 .taken) (early-at t marks 0 (omega arith) (omega arith)))
-
-shared-slice-read-byte : tie.Need-shared-slice-read-byte
-shared-slice-read-byte c = search needs
-
-byte-requires : tie.Need-byte-requires
-byte-requires c κs = search needs
-
-marks-ok-requires : tie.Need-marks-ok-requires
-marks-ok-requires c κs = search needs
-
-refused-requires-2 : tie.Need-refused-requires-2
-refused-requires-2 c κs = search needs
 
 returns-2 : tie.Need-returns-2
 returns-2 c =
@@ -78,9 +63,6 @@ returns-2 c =
 read-requires : tie.Need-read-requires
 read-requires c κs = (marks-most mostMarks (c .before .before .byte .result) (m-ok c), omega arith)
 
-refused-requires-3 : tie.Need-refused-requires-3
-refused-requires-3 c κs = search needs
-
 returns-3 : tie.Need-returns-3
 returns-3 c =
     let m = c .before .before .before .before .before .before .byte .result in
@@ -90,9 +72,6 @@ returns-3 c =
 read-requires-2 : tie.Need-read-requires-2
 read-requires-2 c κs = (marks-most mostMarks (c .before .before .before .before .before .byte .result) (m-ok (c .before .before .before)), class-got c .inside)
 
-refused-requires-4 : tie.Need-refused-requires-4
-refused-requires-4 c κs = search needs
-
 returns-4 : tie.Need-returns-4
 returns-4 c =
     let m = c .before .before .before .before .before .before .before .before .before .byte .result in
@@ -100,19 +79,10 @@ returns-4 c =
     refusal (c .before .before .before .before .before .before .before .before .before .before .before .before .before .args .bytes .now) 10 _ (c .refused4 .ensures)
     (then-run (past-class (c .before .before .before .before)) (part-bad (c .before .before .before .read2 .ensures) (not-true _ (c .before .if4 .taken)) [] (middle m outs) (before-held m outs)))
 
-refused-requires-5 : tie.Need-refused-requires-5
-refused-requires-5 c κs = search needs
-
 returns-5 : tie.Need-returns-5
 returns-5 c =
     let t = c .before .before .before .before .before .before .before .before .before .before .before .before .before .before .args .bytes .now in
     refusal t 10 _ (c .refused5 .ensures) (then-run (past-held (c .before .before)) (left-over t _ _ (c .before .if5 .taken)))
-
-slice-aggregate-afresh : tie.Need-slice-aggregate-afresh
-slice-aggregate-afresh c = search needs
-
-slice-aggregate-afresh-2 : tie.Need-slice-aggregate-afresh-2
-slice-aggregate-afresh-2 c = search needs
 
 afresh-requires : tie.Need-afresh-requires
 afresh-requires c κs =
@@ -134,25 +104,8 @@ returns-6 c =
     record { outcome = good-outcome (whole m outs times); run = all-good (c .before .before .before .before .before); is = answered m outs times (class-got (c .before .before .before .before .before .before .before .before .before) .most) (c .afresh .ensures) }
 
 pub read-spec : {M : Type 1} → statement M
-read-spec =
-    tie.close
-    (tie.spec
-    refused-requires
-    returns
-    shared-slice-read-byte
-    byte-requires
-    marks-ok-requires
-    refused-requires-2
-    returns-2
-    read-requires
-    refused-requires-3
-    returns-3
-    read-requires-2
-    refused-requires-4
-    returns-4
-    refused-requires-5
-    returns-5
-    slice-aggregate-afresh
-    slice-aggregate-afresh-2
-    afresh-requires
-    returns-6)
+read-spec = tie.close (tie.spec
+    (λ c κs. search needs) returns (λ c. search needs) (λ c κs. search needs) (λ c κs. search needs)
+    (λ c κs. search needs) returns-2 read-requires (λ c κs. search needs) returns-3 read-requires-2
+    (λ c κs. search needs) returns-4 (λ c κs. search needs) returns-5 (λ c. search needs) (λ c. search needs)
+    afresh-requires returns-6)

@@ -35,17 +35,8 @@ loop-holds c =
     let is = c .power3 .ensures .0 in
     (omega (arith, is), omega (arith, is, made .long, s .pre .0 .2), refl, standing-boxes (s .args .m) (c .power3 .result) (entry (s .args .own .now)) is made)
 
-mul-t : tie.Need-mul-t Inv-loop μ-loop
-mul-t c = omega arith
-
 slice-write-t : tie.Need-slice-write-t Inv-loop μ-loop
 slice-write-t c = omega (arith, c .before .loop .inv .2)
-
-add-b : tie.Need-add-b Inv-loop μ-loop
-add-b c = omega arith
-
-loop-less : tie.Need-loop-less Inv-loop μ-loop
-loop-less c = omega arith
 
 loop-again : tie.Need-loop-again Inv-loop μ-loop
 loop-again c =
@@ -63,18 +54,6 @@ returns c =
     tab-of _ _ (l .t) long (λ k q. l .inv .3 k (omega (arith, long, l .inv .2)))
 
 pub fill-spec : {M : Type 1} → statement M
-fill-spec =
-    tie.close
-    (tie.spec
-    Inv-loop
-    μ-loop
-    fill-at-requires
-    power3-requires
-    loop-holds
-    mul-t
-    slice-write-t
-    add-b
-    loop-less
-    loop-again
-    same-length
-    returns)
+fill-spec = tie.close (tie.spec
+    Inv-loop μ-loop fill-at-requires power3-requires loop-holds (λ c. omega arith) slice-write-t (λ c. omega arith)
+    (λ c. omega arith) loop-again same-length returns)

@@ -53,9 +53,6 @@ cast-power2 c = omega (arith, few (c .before))
 power2-requires-2 : tie.Need-power2-requires-2 Inv-loop μ-loop
 power2-requires-2 c κs = few (c .before)
 
-mul-fits : tie.Need-mul-fits Inv-loop μ-loop
-mul-fits c = omega arith
-
 shared-slice-read-fits : tie.Need-shared-slice-read-fits Inv-loop μ-loop
 shared-slice-read-fits c = let s = c .before .before .before .before .before .before .before in omega (arith, c .before .before .through .ensures .1, s .pre .0 .long)
 
@@ -65,20 +62,11 @@ mul-fits-2 c = omega (arith, more-at-most (c .before))
 add-fits : tie.Need-add-fits Inv-loop μ-loop
 add-fits c = omega (arith, more-at-most (c .before), c .before .before .before .before .before .before .before .pre .1 .0)
 
-fits-requires : tie.Need-fits-requires Inv-loop μ-loop
-fits-requires c κs = search needs
-
 returns : tie.Need-returns Inv-loop μ-loop
 returns c =
     let a = c .before .before .before .before .before .before .before .before .before in
     let k = c .before .before .before .before .before .before .loop .k in
     sym (touched-no (a .args .m) (a .args .c) (fitsMoved (a .args .m) (a .args .by) (a .args .t .now) (a .args .most) (a .args .each)) k (a .pre .0 .low) (here (c .before) ∙ not-true _ (c .if1 .taken)))
-
-add-k : tie.Need-add-k Inv-loop μ-loop
-add-k c = search needs
-
-loop-less : tie.Need-loop-less Inv-loop μ-loop
-loop-less c = search needs
 
 loop-again : tie.Need-loop-again Inv-loop μ-loop
 loop-again c =
@@ -91,23 +79,7 @@ returns-2 c =
     sym (touched-all (a .args .m) (a .args .c) (fitsMoved (a .args .m) (a .args .by) (a .args .t .now) (a .args .most) (a .args .each)) (λ u l. c .before .loop .inv .2 u (omega arith)))
 
 pub fits-at-spec : {M : Type 1} → statement M
-fits-at-spec =
-    tie.close
-    (tie.spec
-    Inv-loop
-    μ-loop
-    power2-requires
-    loop-holds
-    through-requires
-    cast-power2
-    power2-requires-2
-    mul-fits
-    shared-slice-read-fits
-    mul-fits-2
-    add-fits
-    fits-requires
-    returns
-    add-k
-    loop-less
-    loop-again
-    returns-2)
+fits-at-spec = tie.close (tie.spec
+    Inv-loop μ-loop power2-requires loop-holds through-requires cast-power2 power2-requires-2 (λ c. omega arith)
+    shared-slice-read-fits mul-fits-2 add-fits (λ c κs. search needs) returns (λ c. search needs) (λ c. search needs)
+    loop-again returns-2)

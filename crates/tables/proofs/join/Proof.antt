@@ -25,23 +25,8 @@ parts c = let l = c .before .before .before .loop in (l .inv .1 .before _ (omega
 loop-holds : tie.Need-loop-holds Inv-loop μ-loop
 loop-holds c = (omega arith, made-none _ _ _)
 
-add-off : tie.Need-add-off Inv-loop μ-loop
-add-off c = search needs
-
-add-on : tie.Need-add-on Inv-loop μ-loop
-add-on c = search needs
-
-add-free : tie.Need-add-free Inv-loop μ-loop
-add-free c = search needs
-
-mul-t : tie.Need-mul-t Inv-loop μ-loop
-mul-t c = search needs
-
 slice-read-t : tie.Need-slice-read-t Inv-loop μ-loop
 slice-read-t c = omega (arith, c .before .before .loop .inv .1 .long, c .before .before .before .pre .0 .2)
-
-mul-t-2 : tie.Need-mul-t-2 Inv-loop μ-loop
-mul-t-2 c = search needs
 
 slice-read-t-2 : tie.Need-slice-read-t-2 Inv-loop μ-loop
 slice-read-t-2 c = omega (arith, c .before .before .before .loop .inv .1 .long, c .before .before .before .before .pre .0 .2)
@@ -52,17 +37,8 @@ add-t c =
     let a = c .before .before .before .before in
     record { fits = omega (arith, parts c .0, parts c .1, a .pre .1 (l .b) (omega arith)) }
 
-mul-t-3 : tie.Need-mul-t-3 Inv-loop μ-loop
-mul-t-3 c = search needs
-
 slice-write-t : tie.Need-slice-write-t Inv-loop μ-loop
 slice-write-t c = omega (arith, c .before .before .before .loop .inv .1 .long, c .before .before .before .before .pre .0 .2)
-
-add-b : tie.Need-add-b Inv-loop μ-loop
-add-b c = search needs
-
-loop-less : tie.Need-loop-less Inv-loop μ-loop
-loop-less c = search needs
 
 loop-again : tie.Need-loop-again Inv-loop μ-loop
 loop-again c =
@@ -80,24 +56,7 @@ returns c =
     subst (λ (n : ℕ). Made (a .at + a .p * 2) n (sumOf (a .p) (a .at) (a .t .now)) (a .t .now) (l .t)) e (l .inv .1)
 
 pub join-spec : {M : Type 1} → statement M
-join-spec =
-    tie.close
-    (tie.spec
-    Inv-loop
-    μ-loop
-    loop-holds
-    add-off
-    add-on
-    add-free
-    mul-t
-    slice-read-t
-    mul-t-2
-    slice-read-t-2
-    add-t
-    mul-t-3
-    slice-write-t
-    add-b
-    loop-less
-    loop-again
-    same-length
-    returns)
+join-spec = tie.close (tie.spec
+    Inv-loop μ-loop loop-holds (λ c. search needs) (λ c. search needs) (λ c. search needs) (λ c. search needs)
+    slice-read-t (λ c. search needs) slice-read-t-2 add-t (λ c. search needs) slice-write-t (λ c. search needs)
+    (λ c. search needs) loop-again same-length returns)

@@ -1,14 +1,11 @@
 -- After k turns the boxes through c with free marks below k have moved, and no other entry has.
 use Prim.Native.Nat.{ℕ, _+_, _-_, _^_, _≤_}
-use mathlib.Core.Bool.{Bool, true}
-use mathlib.Core.Path.{_≡_, sym, _∙_, ap, subst}
-use mathlib.Core.List.{List}
+use mathlib.Core.Path.{_≡_, sym, _∙_, subst}
 use native.Mathlib.Omega.{arith}
 use lib.ListN.{set}
 use borrow.Author.Needs.{needs}
-use Rattle.tables.specs.declared.Shift.{Shift}
-use Rattle.tables.specs.Tables.{shifted, moved}
-use Rattle.tables.specs.Parts.{Bears, staysOf}
+use Rattle.tables.specs.Tables.{shifted}
+use Rattle.tables.specs.Parts.{Bears}
 use Rattle.tables.proofs.Moves.{MovedUpTo, Turn, moved-start, moved-turn, moved-all}
 use Rattle.tables.proofs.Shifts.{moved-stays}
 use Rattle.tables.proofs.move_at.Statement.{statement}
@@ -29,9 +26,6 @@ turn c =
     let s = c .before .before .before .before .before .before .before .before in
     moved-turn (l .inv .2) (omega (arith, c .before .before .loop-test .taken, l .inv .1)) (s .pre .0 .low) (s .pre .0 .long) _ (c .before .through .ensures .0)
 
-is-none-requires : tie.Need-is-none-requires Inv-loop μ-loop
-is-none-requires c κs = search needs
-
 returns : tie.Need-returns Inv-loop μ-loop
 returns c = moved-stays _ _ (c .before .before .before .args .by) _ (sym (c .before .is-none .ensures) ∙ c .if1 .taken)
 
@@ -44,9 +38,6 @@ loop-holds c = (omega arith, c .power2 .ensures .0, moved-start _ _ _ _)
 through-requires : tie.Need-through-requires Inv-loop μ-loop
 through-requires c κs = c .before .before .before .before .before .before .pre .0 .marks
 
-mul-of : tie.Need-mul-of Inv-loop μ-loop
-mul-of c = omega arith
-
 slice-read-of : tie.Need-slice-read-of Inv-loop μ-loop
 slice-read-of c = turn c .inside
 
@@ -56,17 +47,8 @@ of-requires c κs =
     let s = c .before .before .before .before .before .before .before .before in
     subst (Bears (s .args .by)) (sym (w .still)) (s .pre .1 _ (w .touches))
 
-mul-t : tie.Need-mul-t Inv-loop μ-loop
-mul-t c = omega arith
-
 slice-write-t : tie.Need-slice-write-t Inv-loop μ-loop
 slice-write-t c = turn (c .before) .inside
-
-add-k : tie.Need-add-k Inv-loop μ-loop
-add-k c = search needs
-
-loop-less : tie.Need-loop-less Inv-loop μ-loop
-loop-less c = search needs
 
 loop-again : tie.Need-loop-again Inv-loop μ-loop
 loop-again c =
@@ -86,23 +68,7 @@ returns-2 c =
     moved-all (a .by) (subst (λ (k : ℕ). MovedUpTo (a .m) (a .c) k (shifted (a .by)) (a .t .now) (l .t)) e (l .inv .2))
 
 pub move-at-spec : {M : Type 1} → statement M
-move-at-spec =
-    tie.close
-    (tie.spec
-    Inv-loop
-    μ-loop
-    is-none-requires
-    returns
-    power2-requires
-    loop-holds
-    through-requires
-    mul-of
-    slice-read-of
-    of-requires
-    mul-t
-    slice-write-t
-    add-k
-    loop-less
-    loop-again
-    same-length
-    returns-2)
+move-at-spec = tie.close (tie.spec
+    Inv-loop μ-loop (λ c κs. search needs) returns power2-requires loop-holds through-requires (λ c. omega arith)
+    slice-read-of of-requires (λ c. omega arith) slice-write-t (λ c. search needs) (λ c. search needs) loop-again
+    same-length returns-2)

@@ -1,8 +1,6 @@
 -- Each arm is one value of a sound sheet.
-use Prim.Native.Nat.{ℕ}
-use mathlib.Core.Path.{_≡_, sym, _∙_, ap, subst}
+use mathlib.Core.Path.{sym, subst}
 use borrow.Author.Needs.{needs}
-use Rattle.sheet.specs.declared.Value.{Value}
 use Rattle.sheet.proofs.Keeps.{class-of-ready}
 use Rattle.vault.specs.declared.Question.{Question}
 use Rattle.vault.specs.Parts.{AnswerTo}

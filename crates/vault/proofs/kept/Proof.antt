@@ -3,26 +3,16 @@ use mathlib.Core.Path.{_≡_, sym, ap}
 use native.Mathlib.Omega.{arith}
 use lib.ListN.{List·getD-eq-default, length}
 use borrow.Author.Needs.{needs}
+use Rattle.sheet.specs.Limits.{entries}
 use Rattle.vault.proofs.kept.Statement.{statement}
 use Rattle.vault.proofs.kept.Tie as tie
 
-long : (c : tie.Start) → length (c .args .t1) ≡ 243
+long : (c : tie.Start) → length (c .args .t1) ≡ entries
 long c = search needs
-
-mul-t6 : tie.Need-mul-t6
-mul-t6 c = search needs
-
-array-read-t9 : tie.Need-array-read-t9
-array-read-t9 c = search needs
-
-cast-t10 : tie.Need-cast-t10
-cast-t10 c = search needs
-
-returns : tie.Need-returns
-returns c = search needs
 
 returns-2 : tie.Need-returns-2
 returns-2 c = ap (λ (x : ℕ). record { number = 0; value = x }) (sym (List·getD-eq-default (c .before .args .t1) 0 (omega (arith, long (c .before)))))
 
 pub kept-spec : {M : Type 1} → statement M
-kept-spec = tie.close (tie.spec mul-t6 array-read-t9 cast-t10 returns returns-2)
+kept-spec = tie.close (tie.spec
+    (λ c. search needs) (λ c. search needs) (λ c. search needs) (λ c. search needs) returns-2)

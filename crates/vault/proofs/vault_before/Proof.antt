@@ -4,21 +4,12 @@ use Rattle.ground.proofs.Cases.{clash}
 use Rattle.vault.proofs.vault_before.Statement.{statement}
 use Rattle.vault.proofs.vault_before.Tie as tie
 
-is-before-requires : tie.Need-is-before-requires
-is-before-requires c κs = search needs
-
-replied-requires : tie.Need-replied-requires
-replied-requires c κs = search needs
-
 returns : tie.Need-returns
 returns c = second-before _ _ (c .before .before .is-before .ensures .yes (c .before .if1 .taken)) (c .replied .ensures)
-
-replied-requires-2 : tie.Need-replied-requires-2
-replied-requires-2 c κs = search needs
 
 returns-2 : tie.Need-returns-2
 returns-2 c = first-keeps _ _ (λ b. clash (c .before .before .is-before .ensures .sure b) (c .before .if1 .left)) (c .replied2 .ensures)
 
 pub vault-before-spec : {M : Type 1} → statement M
-vault-before-spec =
-    tie.close (tie.spec is-before-requires replied-requires returns replied-requires-2 returns-2)
+vault-before-spec = tie.close (tie.spec
+    (λ c κs. search needs) (λ c κs. search needs) returns (λ c κs. search needs) returns-2)

@@ -22,9 +22,6 @@ abbrev μ-loop : tie.MeasureT-loop
 loop-holds : tie.Need-loop-holds Inv-loop μ-loop
 loop-holds c = (omega arith, coming-all (c .before .args .k) (c .before .args .n), wrote-none (c .before .args .out .now) (c .before .args .at))
 
-cast-put-byte : tie.Need-cast-put-byte Inv-loop μ-loop
-cast-put-byte c = omega arith
-
 put-byte-requires : tie.Need-put-byte-requires Inv-loop μ-loop
 put-byte-requires c κs =
     let l = c .before .before .loop in
@@ -36,12 +33,6 @@ put-byte-requires c κs =
       bytes-place k n (l .i) (s .args .at) (l .next) (s .args .out .now) (l .out) (l .inv .2) (l .inv .0) (s .pre),
       bytes-long k n (l .i) (s .args .at) (l .next) (s .args .out .now) (l .out) (l .inv .2) (l .inv .0) (s .pre),
     )
-
-add-i : tie.Need-add-i Inv-loop μ-loop
-add-i c = omega arith
-
-loop-less : tie.Need-loop-less Inv-loop μ-loop
-loop-less c = omega arith
 
 loop-again : tie.Need-loop-again Inv-loop μ-loop
 loop-again c =
@@ -68,16 +59,6 @@ returns c =
     bytes-put (s .args .k) (s .args .n) (l .i) (s .args .at) (l .next) (s .args .out .now) (l .out) (l .inv .2) (l .inv .0) (s .pre) (omega arith)
 
 pub put-bytes-spec : {M : Type 1} → statement M
-put-bytes-spec =
-    tie.close
-    (tie.spec
-    Inv-loop
-    μ-loop
-    loop-holds
-    cast-put-byte
-    put-byte-requires
-    add-i
-    loop-less
-    loop-again
-    same-length
-    returns)
+put-bytes-spec = tie.close (tie.spec
+    Inv-loop μ-loop loop-holds (λ c. omega arith) put-byte-requires (λ c. omega arith) (λ c. omega arith) loop-again
+    same-length returns)

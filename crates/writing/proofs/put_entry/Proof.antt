@@ -24,20 +24,11 @@ returns c =
     let s = c .before .before .args in
     wrote-text (sym (entry-none (s .k) (s .unset) (s .c) (s .x) (c .if1 .taken))) (wrote-none (s .out .now) (s .at))
 
-cast-put-byte : tie.Need-cast-put-byte
-cast-put-byte c = search needs
-
 put-byte-requires : tie.Need-put-byte-requires
 put-byte-requires c κs = omega (arith, room (c .before))
 
-wide-requires : tie.Need-wide-requires
-wide-requires c κs = search needs
-
 put-bytes-requires : tie.Need-put-bytes-requires
 put-bytes-requires c κs = omega (arith, room (c .before .before .before .before .before .before), c .before .before .before .before .put-byte .ensures .place, c .before .before .before .before .put-byte .kept .0)
-
-same-length : tie.Need-same-length
-same-length c = search needs
 
 returns-2 : tie.Need-returns-2
 returns-2 c =
@@ -46,5 +37,6 @@ returns-2 c =
     wrote-text (sym (some (c .before .before .before .before .before .before .before .before .before))) (wrote-then (c .before .before .before .before .before .before .before .put-byte .ensures) w (omega (arith, room (c .before .before .before .before .before .before .before .before .before), bytes-length (s .k) (s .x))))
 
 pub put-entry-spec : {M : Type 1} → statement M
-put-entry-spec =
-    tie.close (tie.spec returns cast-put-byte put-byte-requires wide-requires put-bytes-requires same-length returns-2)
+put-entry-spec = tie.close (tie.spec
+    returns (λ c. search needs) put-byte-requires (λ c κs. search needs) put-bytes-requires (λ c. search needs)
+    returns-2)

@@ -20,9 +20,6 @@ Inv-loop out₀ at m t k unset n next₀ c₀ out next c =
 abbrev μ-loop : tie.MeasureT-loop
 μ-loop out₀ at m t k unset n next₀ c₀ out next c = n - c
 
-power2-requires : tie.Need-power2-requires Inv-loop μ-loop
-power2-requires c κs = omega arith
-
 loop-holds : tie.Need-loop-holds Inv-loop μ-loop
 loop-holds c =
     let s = c .before .before .before .args in
@@ -34,9 +31,6 @@ inside c = omega (arith, c .single .ensures .1, pow-le-pow-right {n = 3} (omega 
 
 own-is : (c : tie.After-single Inv-loop μ-loop) → own (c .before .before .before .before .before .before .args .m) (c .before .before .before .before .before .before .args .t .now) (c .before .before .loop .c) ≡ entry (c .before .before .before .before .before .before .args .t .now) (c .single .result)
 own-is c = own-read (c .before .before .before .before .before .before .args .m) (c .before .before .before .before .before .before .args .t .now) (c .before .before .loop .c) (c .single .result) (c .single .ensures .0)
-
-single-requires : tie.Need-single-requires Inv-loop μ-loop
-single-requires c κs = omega arith
 
 mul-put-entry : tie.Need-mul-put-entry Inv-loop μ-loop
 mul-put-entry c = omega (arith, inside (c .before))
@@ -52,12 +46,6 @@ put-entry-requires c κs =
       omega (arith, l .inv .1, combinations-fit (s .m) (c .before .before .before .before .before .before .before .before .pre .0)),
       listing-room (l .inv .2) _ _ (ap (isSet (s .unset)) e) (ap (λ (x : ℕ). l .c ∷ bytes (s .k) x) e) (omega (arith, l .inv .1)),
     )
-
-add-c : tie.Need-add-c Inv-loop μ-loop
-add-c c = omega arith
-
-loop-less : tie.Need-loop-less Inv-loop μ-loop
-loop-less c = omega arith
 
 loop-again : tie.Need-loop-again Inv-loop μ-loop
 loop-again c =
@@ -76,19 +64,6 @@ returns : tie.Need-returns Inv-loop μ-loop
 returns c = let l = c .before .loop in listing-done (l .inv .2) (omega (arith, l .inv .1))
 
 pub put-list-spec : {M : Type 1} → statement M
-put-list-spec =
-    tie.close
-    (tie.spec
-    Inv-loop
-    μ-loop
-    power2-requires
-    loop-holds
-    single-requires
-    mul-put-entry
-    shared-slice-read-put-entry
-    put-entry-requires
-    add-c
-    loop-less
-    loop-again
-    same-length
-    returns)
+put-list-spec = tie.close (tie.spec
+    Inv-loop μ-loop (λ c κs. omega arith) loop-holds (λ c κs. omega arith) mul-put-entry shared-slice-read-put-entry
+    put-entry-requires (λ c. omega arith) (λ c. omega arith) loop-again same-length returns)

@@ -28,19 +28,10 @@ same-list c = ap₂ (λ (k u : ℕ). listIn k u (c .before .before .before .befo
 put-bytes-requires : tie.Need-put-bytes-requires
 put-bytes-requires c κs = omega (arith, room (c .before .before .before))
 
-bytes-behind-requires : tie.Need-bytes-behind-requires
-bytes-behind-requires c κs = search needs
-
-unset-requires : tie.Need-unset-requires
-unset-requires c κs = search needs
-
 put-list-requires : tie.Need-put-list-requires
 put-list-requires c κs =
     let w = c .before .before .before .before .before .put-bytes in
     (c .before .before .before .before .before .before .before .before .before .pre .0, (c .before .before .before .before .before .before .before .before .before .pre .1 .0, omega (arith, room (c .before .before .before .before .before .before .before .before .before), ap length (same-list c), w .ensures .place, w .kept .0, bytes-length 2 (c .before .before .before .before .before .before .before .before .before .args .n))))
-
-same-length : tie.Need-same-length
-same-length c = search needs
 
 returns : tie.Need-returns
 returns c =
@@ -50,5 +41,5 @@ returns c =
     (wrote-then (c .before .before .before .before .before .before .before .before .put-bytes .ensures) (wrote-text (same-list (c .before .before .before)) (c .before .before .put-list .ensures)) (omega (arith, room s, bytes-length 2 (s .args .n))))
 
 pub put-section-spec : {M : Type 1} → statement M
-put-section-spec =
-    tie.close (tie.spec put-bytes-requires bytes-behind-requires unset-requires put-list-requires same-length returns)
+put-section-spec = tie.close (tie.spec
+    put-bytes-requires (λ c κs. search needs) (λ c κs. search needs) put-list-requires (λ c. search needs) returns)

@@ -20,9 +20,6 @@ Inv-loop m t unset n size₀ c₀ size c = (c ≤ n) × (n ≡ 2 ^ m) × (size �
 abbrev μ-loop : tie.MeasureT-loop
 μ-loop m t unset n size₀ c₀ size c = n - c
 
-power2-requires : tie.Need-power2-requires Inv-loop μ-loop
-power2-requires c κs = omega arith
-
 loop-holds : tie.Need-loop-holds Inv-loop μ-loop
 unfolding sum
 loop-holds c = (omega arith, c .power2 .ensures .0, omega arith, refl)
@@ -39,9 +36,6 @@ next c x e =
     let same = own-read (s .m) (s .t .now) (l .c) (c .single .result) (c .single .ensures .0) in
     ap (λ (y : ℕ). y + x) (l .inv .3) ∙ sum-step (λ j. only (isSet (s .unset) (own (s .m) (s .t .now) j)) 1) (l .c) x (ap (λ (y : ℕ). only (isSet (s .unset) y) 1) same ∙ e)
 
-single-requires : tie.Need-single-requires Inv-loop μ-loop
-single-requires c κs = omega arith
-
 mul-if1 : tie.Need-mul-if1 Inv-loop μ-loop
 mul-if1 c = omega (arith, inside c)
 
@@ -50,12 +44,6 @@ shared-slice-read-if1 c = omega (arith, inside (c .before), c .before .before .b
 
 add-size : tie.Need-add-size Inv-loop μ-loop
 add-size c = omega (arith, combinations-fit (c .before .before .before .before .before .before .before .args .m) (c .before .before .before .before .before .before .before .pre .0), c .before .before .before .before .loop .inv .1)
-
-add-c : tie.Need-add-c Inv-loop μ-loop
-add-c c = omega arith
-
-loop-less : tie.Need-loop-less Inv-loop μ-loop
-loop-less c = omega arith
 
 loop-again : tie.Need-loop-again Inv-loop μ-loop
 loop-again c =
@@ -76,18 +64,6 @@ returns c =
     (l .inv .3 ∙ ap (count (λ j. isSet (s .unset) (own (s .m) (s .t .now) j))) e, omega (arith, l .inv .2, combinations-fit (s .m) (c .before .before .before .before .pre .0)))
 
 pub size-spec : {M : Type 1} → statement M
-size-spec =
-    tie.close
-    (tie.spec
-    Inv-loop
-    μ-loop
-    power2-requires
-    loop-holds
-    single-requires
-    mul-if1
-    shared-slice-read-if1
-    add-size
-    add-c
-    loop-less
-    loop-again
-    returns)
+size-spec = tie.close (tie.spec
+    Inv-loop μ-loop (λ c κs. omega arith) loop-holds (λ c κs. omega arith) mul-if1 shared-slice-read-if1 add-size
+    (λ c. omega arith) (λ c. omega arith) loop-again returns)

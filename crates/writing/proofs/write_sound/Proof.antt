@@ -40,32 +40,11 @@ room c =
     let held = sectionIn Held (u .marks) (u .held) in
     omega (arith, total (c .before), ap length (pieces-form u (c .before .before .before .before .before .before .before .before .before .before .pre)), length-append ((u .marks ∷ []) ++ class) held, length-append (u .marks ∷ []) class)
 
-slice-aggregate-size : tie.Need-slice-aggregate-size
-slice-aggregate-size c = search needs
-
-unset-requires : tie.Need-unset-requires
-unset-requires c κs = search needs
-
 size-requires : tie.Need-size-requires
 size-requires c κs = (few (c .before .before .before .before .before), omega (arith, long (c .before .before .before .before .before)))
 
-slice-aggregate-size-2 : tie.Need-slice-aggregate-size-2
-slice-aggregate-size-2 c = search needs
-
-unset-requires-2 : tie.Need-unset-requires-2
-unset-requires-2 c κs = search needs
-
 size-requires-2 : tie.Need-size-requires-2
 size-requires-2 c κs = (few (c .before .before .before .before .before .before .before .before), omega (arith, long (c .before .before .before .before .before .before .before .before)))
-
-add-if1 : tie.Need-add-if1
-add-if1 c = search needs
-
-mul-if1 : tie.Need-mul-if1
-mul-if1 c = search needs
-
-add-if1-2 : tie.Need-add-if1-2
-add-if1-2 c = search needs
 
 returns : tie.Need-returns
 returns c = short (c .before .before .before .before .before .before .before .before .before .before .pre) (omega (arith, total (c .before)))
@@ -73,48 +52,20 @@ returns c = short (c .before .before .before .before .before .before .before .be
 cast-put-byte : tie.Need-cast-put-byte
 cast-put-byte c = omega (arith, few (c .before .before .before .before .before .before .before .before .before .before .before))
 
-put-byte-requires : tie.Need-put-byte-requires
-put-byte-requires c κs = search needs
-
-slice-aggregate-put-section : tie.Need-slice-aggregate-put-section
-slice-aggregate-put-section c = search needs
-
 put-section-requires : tie.Need-put-section-requires
 put-section-requires c κs = (few (c .before .before .before .before .before .before .before .before .before .before .before .before .before .before .before .before), (omega (arith, long (c .before .before .before .before .before .before .before .before .before .before .before .before .before .before .before .before)), (class-count (c .before .before .before .before .before .before .before .before .before .before), omega (arith, room (c .before .before .before .before .before .before), c .before .before .before .before .put-byte .ensures .place, c .before .before .before .before .put-byte .kept .0))))
-
-slice-aggregate-put-section-2 : tie.Need-slice-aggregate-put-section-2
-slice-aggregate-put-section-2 c = search needs
 
 put-section-requires-2 : tie.Need-put-section-requires-2
 put-section-requires-2 c κs =
     (few (c .before .before .before .before .before .before .before .before .before .before .before .before .before .before .before .before .before .before .before .before .before), (omega (arith, long (c .before .before .before .before .before .before .before .before .before .before .before .before .before .before .before .before .before .before .before .before .before)), (held-count (c .before .before .before .before .before .before .before .before .before .before .before .before), omega (arith, room (c .before .before .before .before .before .before .before .before .before .before .before), c .before .before .before .before .before .before .before .before .before .put-byte .ensures .place, c .before .before .before .before .before .before .before .before .before .put-byte .kept .0, c .before .before .before .before .put-section .ensures .place, c .before .before .before .before .put-section .kept .0))))
-
-same-length : tie.Need-same-length
-same-length c = search needs
 
 returns-2 : tie.Need-returns-2
 returns-2 c =
     pieces-written (c .before .before .before .before .before .before .before .before .before .before .before .before .before .before .before .before .before .before .before .before .before .before .before .before .args .sheet) (c .before .before .before .before .before .before .before .before .before .before .before .before .before .before .before .before .before .before .before .before .before .before .before .before .pre) (omega (arith, total (c .before .before .before .before .before .before .before .before .before .before .before .before .before .before .before))) (c .before .before .before .before .before .before .before .before .before .before .before .before .put-byte .ensures) (c .before .before .before .before .before .before .before .put-section .ensures) (c .before .before .put-section2 .ensures)
 
 pub write-sound-spec : {M : Type 1} → statement M
-write-sound-spec =
-    tie.close
-    (tie.spec
-    slice-aggregate-size
-    unset-requires
-    size-requires
-    slice-aggregate-size-2
-    unset-requires-2
-    size-requires-2
-    add-if1
-    mul-if1
-    add-if1-2
-    returns
-    cast-put-byte
-    put-byte-requires
-    slice-aggregate-put-section
-    put-section-requires
-    slice-aggregate-put-section-2
-    put-section-requires-2
-    same-length
-    returns-2)
+write-sound-spec = tie.close (tie.spec
+    (λ c. search needs) (λ c κs. search needs) size-requires (λ c. search needs) (λ c κs. search needs)
+    size-requires-2 (λ c. search needs) (λ c. search needs) (λ c. search needs) returns cast-put-byte
+    (λ c κs. search needs) (λ c. search needs) put-section-requires (λ c. search needs) put-section-requires-2
+    (λ c. search needs) returns-2)

@@ -1,7 +1,7 @@
 -- Four pieces, one behind the other.
 use native.Mathlib.Omega.{arith}
 use borrow.Author.Needs.{needs}
-use Rattle.desk.proofs.Texts.{wrote-four}
+use Rattle.machine.proofs.Laid.{wrote-four}
 use Rattle.desk.specs.Prints.{boxLine}
 use Rattle.print.proofs.Digits.{time-room, pattern-length}
 use Rattle.desk.proofs.page.put_line.Statement.{statement}

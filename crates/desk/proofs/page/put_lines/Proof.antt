@@ -7,6 +7,7 @@ use lib.ListN.{length, getD, take}
 use borrow.Author.Needs.{needs}
 use Rattle.desk.proofs.Texts.{line-length, lines-more}
 use Rattle.desk.specs.Prints.{boxLine, boxLines}
+use Rattle.desk.specs.Parts.{lineRoom}
 use Rattle.tables.specs.Tables.{entry}
 use Rattle.ground.proofs.Areas.{wrote-none, wrote-then, wrote-text, wrote-length}
 use Rattle.ground.specs.Areas.{Wrote}
@@ -14,7 +15,7 @@ use Rattle.desk.proofs.page.put_lines.Statement.{statement}
 use Rattle.desk.proofs.page.put_lines.Tie as tie
 
 abbrev Inv-loop : tie.InvT-loop
-Inv-loop out₀ at m held list next₀ i₀ out next i = (i ≤ length list) × (length out ≡ length out₀) × (next ≤ at + 28 * i) × Wrote out₀ at (boxLines m (entry held) (take i list)) next out
+Inv-loop out₀ at m held list next₀ i₀ out next i = (i ≤ length list) × (length out ≡ length out₀) × (next ≤ at + lineRoom * i) × Wrote out₀ at (boxLines m (entry held) (take i list)) next out
 
 abbrev μ-loop : tie.MeasureT-loop
 μ-loop out₀ at m held list next₀ i₀ out next i = length list - i
@@ -33,13 +34,13 @@ mul-wide : tie.Need-mul-wide Inv-loop μ-loop
 mul-wide c = let h = c .before .before .shared-slice-known3 .given (c .before .before .before .before .loop .i) in omega (arith, c .before .byte .ensures .0)
 
 shared-slice-read-wide : tie.Need-shared-slice-read-wide Inv-loop μ-loop
-shared-slice-read-wide c = let s = c .before .before .before .before .before .before .before .before .before in omega (arith, c .before .before .byte .ensures .0, s .pre .1 (c .before .before .before .before .before .loop .i) (omega arith))
+shared-slice-read-wide c = let s = c .before .before .before .before .before .before .before .before .before in omega (arith, c .before .before .byte .ensures .0, s .pre .1 .0 (c .before .before .before .before .before .loop .i) (omega arith))
 
 wide-requires : tie.Need-wide-requires Inv-loop μ-loop
 wide-requires c κs = search needs
 
 put-line-requires : tie.Need-put-line-requires Inv-loop μ-loop
-put-line-requires c κs = let s = c .before .before .before .before .before .before .before .before .before .before in let l = c .before .before .before .before .before .before .loop in (s .pre .0, omega (arith, s .pre .2, l .inv .1, l .inv .2))
+put-line-requires c κs = let s = c .before .before .before .before .before .before .before .before .before .before in let l = c .before .before .before .before .before .before .loop in (s .pre .0, omega (arith, s .pre .1 .1, l .inv .1, l .inv .2))
 
 add-i : tie.Need-add-i Inv-loop μ-loop
 add-i c = omega arith
@@ -61,10 +62,10 @@ loop-again c =
     let small = line-length (s .args .m) (c .before .before .before .before .before .before .byte .result) (c .before .before .before .wide .result) (s .pre .0) (omega arith) in
     let room : length (boxLine (s .args .m) b (f b)) ≤ 28 = omega (arith, ap length text) in (
       omega arith,
-      wrote-length w (omega (arith, s .pre .2, l .inv .1, l .inv .2)) ∙ l .inv .1,
+      wrote-length w (omega (arith, s .pre .1 .1, l .inv .1, l .inv .2)) ∙ l .inv .1,
       omega (arith, w .place, l .inv .2),
       wrote-text (sym (lines-more (s .args .m) f (s .args .list .now) (l .i) (omega arith)))
-          (wrote-then (l .inv .3) w (omega (arith, s .pre .2, l .inv .3 .place, l .inv .2))),
+          (wrote-then (l .inv .3) w (omega (arith, s .pre .1 .1, l .inv .3 .place, l .inv .2))),
     )
 
 same-length : tie.Need-same-length Inv-loop μ-loop

@@ -1,7 +1,7 @@
 -- Three pieces, one behind the other.
 use native.Mathlib.Omega.{arith}
 use borrow.Author.Needs.{needs}
-use Rattle.desk.proofs.Texts.{wrote-three}
+use Rattle.machine.proofs.Laid.{wrote-three}
 use Rattle.desk.specs.Prints.{lastLine}
 use Rattle.print.proofs.Digits.{time-room}
 use Rattle.desk.proofs.page.put_total.Statement.{statement}

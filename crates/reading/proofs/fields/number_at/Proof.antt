@@ -17,32 +17,11 @@ abbrev μ-loop : tie.MeasureT-loop
 loop-holds : tie.Need-loop-holds Inv-loop μ-loop
 loop-holds c = (omega arith, number-none (c .before .args .t .now) (c .before .args .at + (c .before .args .k - 0)), omega arith)
 
-sub-j : tie.Need-sub-j Inv-loop μ-loop
-sub-j c = omega arith
-
-sub-j-2 : tie.Need-sub-j-2 Inv-loop μ-loop
-sub-j-2 c = omega arith
-
 mul-n : tie.Need-mul-n Inv-loop μ-loop
 mul-n c = let l = c .before .loop in omega (arith, number-small (l .n) (l .i) (l .inv .2) (omega arith))
 
-add-byte : tie.Need-add-byte Inv-loop μ-loop
-add-byte c = omega arith
-
-shared-slice-read-byte : tie.Need-shared-slice-read-byte Inv-loop μ-loop
-shared-slice-read-byte c = omega arith
-
-byte-requires : tie.Need-byte-requires Inv-loop μ-loop
-byte-requires c κs = search needs
-
 add-n : tie.Need-add-n Inv-loop μ-loop
 add-n c = let l = c .before .before .before .loop in omega (arith, number-small (l .n) (l .i) (l .inv .2) (omega arith))
-
-add-i : tie.Need-add-i Inv-loop μ-loop
-add-i c = omega arith
-
-loop-less : tie.Need-loop-less Inv-loop μ-loop
-loop-less c = omega arith
 
 loop-again : tie.Need-loop-again Inv-loop μ-loop
 loop-again c =
@@ -61,20 +40,6 @@ returns c =
     (number-done (s .args .t .now) (s .args .at) (s .args .k) (l .i) (l .n) e (l .inv .1), subst (λ (j : ℕ). l .n < 256 ^ j) e (l .inv .2))
 
 pub number-at-spec : {M : Type 1} → statement M
-number-at-spec =
-    tie.close
-    (tie.spec
-    Inv-loop
-    μ-loop
-    loop-holds
-    sub-j
-    sub-j-2
-    mul-n
-    add-byte
-    shared-slice-read-byte
-    byte-requires
-    add-n
-    add-i
-    loop-less
-    loop-again
-    returns)
+number-at-spec = tie.close (tie.spec
+    Inv-loop μ-loop loop-holds (λ c. omega arith) (λ c. omega arith) mul-n (λ c. omega arith) (λ c. omega arith)
+    (λ c κs. search needs) add-n (λ c. omega arith) (λ c. omega arith) loop-again returns)

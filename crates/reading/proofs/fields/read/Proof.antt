@@ -6,14 +6,8 @@ use Rattle.reading.specs.Parts.{early, faulty, fits}
 use Rattle.reading.proofs.fields.read.Statement.{statement}
 use Rattle.reading.proofs.fields.read.Tie as tie
 
-sub-if1 : tie.Need-sub-if1
-sub-if1 c = search needs
-
 returns : tie.Need-returns
 returns c = early refl (omega arith) refl
-
-number-at-requires : tie.Need-number-at-requires
-number-at-requires c κs = search needs
 
 returns-2 : tie.Need-returns-2
 returns-2 c = let n = c .before .number-at in faulty refl (omega arith) (omega (arith, n .ensures .0, n .ensures .1)) (λ l u. omega (arith, n .ensures .0)) refl
@@ -21,11 +15,9 @@ returns-2 c = let n = c .before .number-at in faulty refl (omega arith) (omega (
 returns-3 : tie.Need-returns-3
 returns-3 c = let n = c .before .before .number-at in faulty refl (omega arith) (omega (arith, n .ensures .0, n .ensures .1)) (λ l u. omega (arith, n .ensures .0)) refl
 
-add-t7 : tie.Need-add-t7
-add-t7 c = search needs
-
 returns-4 : tie.Need-returns-4
 returns-4 c = let n = c .before .before .number-at in fits refl (omega arith) (n .ensures .0) (n .ensures .1) (omega arith) (omega arith) refl
 
 pub read-spec : {M : Type 1} → statement M
-read-spec = tie.close (tie.spec sub-if1 returns number-at-requires returns-2 returns-3 add-t7 returns-4)
+read-spec = tie.close (tie.spec
+    (λ c. search needs) returns (λ c κs. search needs) returns-2 returns-3 (λ c. search needs) returns-4)

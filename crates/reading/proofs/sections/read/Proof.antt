@@ -12,15 +12,6 @@ use Rattle.reading.proofs.sections.read.Tie as tie
 counted : (c : tie.After-read) → FieldRead (c .before .before .before .args .t .now) (c .before .before .before .args .at) 2 0 (2 ^ c .before .before .before .args .m) (c .read .result)
 counted c = subst (λ (n : ℕ). FieldRead (c .before .before .before .args .t .now) (c .before .before .before .args .at) 2 0 n (c .read .result)) (c .before .power2 .ensures .0) (c .read .ensures)
 
-power2-requires : tie.Need-power2-requires
-power2-requires c κs = search needs
-
-read-requires : tie.Need-read-requires
-read-requires c κs = search needs
-
-stopped-requires : tie.Need-stopped-requires
-stopped-requires c κs = search needs
-
 returns : tie.Need-returns
 returns c =
     part-stopped _ (c .stopped .ensures) (λ rest r b. count-wrong (c .before .before .before .before .before .before .args .section) rest r (b .marks) (counted (c .before .before .before)) (not-true _ (c .before .if1 .taken)) (c .before .before .before .before .before .before .pre .1))
@@ -32,4 +23,5 @@ returns-2 : tie.Need-returns-2
 returns-2 c = part-after (λ rest r b. count-taken (c .before .before .before .before .before .before .args .section) rest r (b .marks) (counted (c .before .before .before)) (not-false _ (c .before .if1 .left))) (c .read-entries .ensures)
 
 pub read-spec : {M : Type 1} → statement M
-read-spec = tie.close (tie.spec power2-requires read-requires stopped-requires returns read-entries-requires returns-2)
+read-spec = tie.close (tie.spec
+    (λ c κs. search needs) (λ c κs. search needs) (λ c κs. search needs) returns read-entries-requires returns-2)

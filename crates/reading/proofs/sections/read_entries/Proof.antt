@@ -45,20 +45,8 @@ below c =
 fits : (c : tie.Else2 Inv-loop μ-loop) → c .before .before .read2 .result .number ≤ mostHeld - c .before .before .before .before .before .before .before .loop .sum
 fits c = field-number (c .before .before .read2 .ensures) (not-false _ (c .if2 .left)) .2
 
-power2-requires : tie.Need-power2-requires Inv-loop μ-loop
-power2-requires c κs = search needs
-
 sub-top : tie.Need-sub-top Inv-loop μ-loop
 sub-top c = omega (arith, c .power2 .ensures .0, one-le-pow (c .before .before .args .m) 2 (omega arith))
-
-bytes-behind-requires : tie.Need-bytes-behind-requires Inv-loop μ-loop
-bytes-behind-requires c κs = search needs
-
-least-requires : tie.Need-least-requires Inv-loop μ-loop
-least-requires c κs = search needs
-
-unset-requires : tie.Need-unset-requires Inv-loop μ-loop
-unset-requires c κs = search needs
 
 loop-holds : tie.Need-loop-holds Inv-loop μ-loop
 loop-holds c =
@@ -71,23 +59,14 @@ loop-holds c =
 read-requires : tie.Need-read-requires Inv-loop μ-loop
 read-requires c κs = (omega arith, reached (c .before) .got .inside)
 
-stopped-requires : tie.Need-stopped-requires Inv-loop μ-loop
-stopped-requires c κs = search needs
-
 returns : tie.Need-returns Inv-loop μ-loop
 returns c = part-stopped _ (c .stopped .ensures) (entry-wrong (reached (c .before .before .before .before .before)) (omega arith) (combination (c .before .before .before)) (not-true _ (c .before .if1 .taken)))
-
-cast-read : tie.Need-cast-read Inv-loop μ-loop
-cast-read c = search needs
 
 sub-read : tie.Need-sub-read Inv-loop μ-loop
 sub-read c = omega (arith, reached (c .before .before .before .before) .sum-most)
 
 read-requires-2 : tie.Need-read-requires-2 Inv-loop μ-loop
 read-requires-2 c κs = (c .before .before .before .before .before .before .before .bytes-behind .ensures .1, field-inside (combination (c .before .before)) (not-false _ (c .if1 .left)))
-
-stopped-requires-2 : tie.Need-stopped-requires-2 Inv-loop μ-loop
-stopped-requires-2 c κs = search needs
 
 returns-2 : tie.Need-returns-2 Inv-loop μ-loop
 returns-2 c =
@@ -109,12 +88,6 @@ add-sum c = omega (arith, fits (c .before .before), reached (c .before .before .
 add-low : tie.Need-add-low Inv-loop μ-loop
 add-low c = omega (arith, below (c .before .before .before .before .before), combinations-fit (c .before .before .before .before .before .before .before .before .before .before .before .before .before .before .before .args .m) (c .before .before .before .before .before .before .before .before .before .before .before .before .before .before .before .pre .0))
 
-sub-left : tie.Need-sub-left Inv-loop μ-loop
-sub-left c = omega arith
-
-loop-less : tie.Need-loop-less Inv-loop μ-loop
-loop-less c = omega arith
-
 loop-again : tie.Need-loop-again Inv-loop μ-loop
 loop-again c = (
   c .before .before .before .before .before .before .before .before .before .loop .inv .0,
@@ -125,31 +98,8 @@ returns-3 : tie.Need-returns-3 Inv-loop μ-loop
 returns-3 c = good refl (reached-end (reached (c .before)) (omega arith))
 
 pub read-entries-spec : {M : Type 1} → statement M
-read-entries-spec =
-    tie.close
-    (tie.spec
-    Inv-loop
-    μ-loop
-    power2-requires
-    sub-top
-    bytes-behind-requires
-    least-requires
-    unset-requires
-    loop-holds
-    read-requires
-    stopped-requires
-    returns
-    cast-read
-    sub-read
-    read-requires-2
-    stopped-requires-2
-    returns-2
-    cast-own
-    mul-own
-    array-write-own
-    add-sum
-    add-low
-    sub-left
-    loop-less
-    loop-again
-    returns-3)
+read-entries-spec = tie.close (tie.spec
+    Inv-loop μ-loop (λ c κs. search needs) sub-top (λ c κs. search needs) (λ c κs. search needs)
+    (λ c κs. search needs) loop-holds read-requires (λ c κs. search needs) returns (λ c. search needs) sub-read
+    read-requires-2 (λ c κs. search needs) returns-2 cast-own mul-own array-write-own add-sum add-low
+    (λ c. omega arith) (λ c. omega arith) loop-again returns-3)

@@ -3,14 +3,14 @@ use mathlib.Core.Path.{_≡_, sym, _∙_}
 use native.Mathlib.Omega.{arith}
 use lib.ListN.{length}
 use Rattle.ground.proofs.Cases.{clash, decided-no}
+use Rattle.sheet.specs.Limits.{entries, mostMarks}
 use Rattle.sheet.proofs.Tests.{marks-most}
 use borrow.Author.Needs.{needs}
 use Rattle.sheet.proofs.Sheet.class_ready.Statement.{statement}
 use Rattle.sheet.proofs.Sheet.class_ready.Tie as tie
 
-long : (c : tie.Start) → length (c .args .self .outside) ≡ 243
+long : (c : tie.Start) → length (c .args .self .outside) ≡ entries
 long c = search needs
-
 
 marks-ok-requires : tie.Need-marks-ok-requires
 marks-ok-requires c κs = search needs
@@ -19,7 +19,7 @@ slice-aggregate-class-sound : tie.Need-slice-aggregate-class-sound
 slice-aggregate-class-sound c = search needs
 
 class-sound-requires : tie.Need-class-sound-requires
-class-sound-requires c κs = record { marks = marks-most 5 _ (sym (c .before .before .marks-ok .ensures) ∙ c .before .if1 .taken); long = omega (arith, long (c .before .before .before .before)) }
+class-sound-requires c κs = record { marks = marks-most mostMarks _ (sym (c .before .before .marks-ok .ensures) ∙ c .before .if1 .taken); long = omega (arith, long (c .before .before .before .before)) }
 
 returns : tie.Need-returns
 returns c =

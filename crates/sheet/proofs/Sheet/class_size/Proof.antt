@@ -1,6 +1,6 @@
 -- 7 where the class table is not sound; else what it counts.
 use Prim.Native.Nat.{ℕ}
-use mathlib.Core.Path.{_≡_, sym, subst}
+use mathlib.Core.Path.{sym, subst}
 use borrow.Author.Needs.{needs}
 use borrow.Author.Tests.{not-true, not-false}
 use Rattle.ground.proofs.Cases.{denied}

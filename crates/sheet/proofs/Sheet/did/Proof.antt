@@ -4,7 +4,7 @@ use native.Mathlib.Omega.{arith}
 use lib.ListN.{length}
 use Rattle.sheet.specs.declared.Move.{Move}
 use Rattle.sheet.specs.declared.Sheet.{Sheet}
-use Rattle.sheet.specs.Limits.{mostMarks}
+use Rattle.sheet.specs.Limits.{mostMarks, entries}
 use Rattle.sheet.specs.Calls.{movedSheet, moveOf, numberOn}
 use Rattle.sheet.specs.Parts.{Accepted}
 use Rattle.sheet.proofs.Answers.{refused, done}
@@ -13,12 +13,11 @@ use borrow.Author.Needs.{needs}
 use Rattle.sheet.proofs.Sheet.did.Statement.{statement}
 use Rattle.sheet.proofs.Sheet.did.Tie as tie
 
-long : (c : tie.Start) → (length (c .args .self .outside) ≡ 243) × (length (c .args .self .held) ≡ 243)
+long : (c : tie.Start) → (length (c .args .self .outside) ≡ entries) × (length (c .args .self .held) ≡ entries)
 long c = (search needs, search needs)
 
 passed : (c : tie.Else1) → let a = c .before .before .before .before .before .before .args in numberOn mostMarks (a .self) (a .call) ≡ 0
 passed c = sym (c .before .of-call .ensures) ∙ c .if1 .left
-
 
 slice-aggregate-of-call : tie.Need-slice-aggregate-of-call
 slice-aggregate-of-call c = search needs

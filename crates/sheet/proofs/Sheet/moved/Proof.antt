@@ -5,20 +5,20 @@ use lib.ListN.{length}
 use Rattle.tables.specs.Parts.{Over, AllBear}
 use Rattle.sheet.specs.Calls.{shiftIn}
 use Rattle.sheet.specs.Record.{Table, outside-counts, held-seconds, kept, sheetWith}
+use Rattle.sheet.specs.Limits.{entries, mostMarks}
 use Rattle.sheet.proofs.Tests.{marks-most, boxes-fit}
 use borrow.Author.Needs.{needs}
 use Rattle.sheet.proofs.Sheet.moved.Statement.{statement}
 use Rattle.sheet.proofs.Sheet.moved.Tie as tie
 
-long : (c : tie.Start) (t : Table) → length (kept t (c .args .self)) ≡ 243
+long : (c : tie.Start) (t : Table) → length (kept t (c .args .self)) ≡ entries
 long c outside-counts = search needs
 long c held-seconds = search needs
 
 over : (c : tie.Start) (t : Table) → let s = c .args .self in Over (s .marks) (c .args .v .at) (kept t s) × AllBear (s .marks) (c .args .v .at) (shiftIn t (c .args .v)) (kept t s)
 over c t =
     let w = c .pre in
-    (record { marks = omega (arith, marks-most 5 _ (w .marks)); low = w .low; long = omega (arith, boxes-fit _ (w .marks), long c t) }, w .bear t)
-
+    (record { marks = omega (arith, marks-most mostMarks _ (w .marks)); low = w .low; long = omega (arith, boxes-fit _ (w .marks), long c t) }, w .bear t)
 
 slice-aggregate-move-at : tie.Need-slice-aggregate-move-at
 slice-aggregate-move-at c = search needs

@@ -1,5 +1,6 @@
 use mathlib.Core.Path.{sym, _∙_, ap}
 use borrow.Author.Needs.{needs}
+use Rattle.sheet.specs.Limits.{entries, mostMarks}
 use Rattle.sheet.proofs.Answers.{open-done, open-refused}
 use Rattle.sheet.proofs.Tests.{marks-most}
 use Rattle.sheet.specs.declared.Sheet.{Sheet}
@@ -10,16 +11,16 @@ marks-ok-requires : tie.Need-marks-ok-requires
 marks-ok-requires c κs = search needs
 
 opened-requires : tie.Need-opened-requires
-opened-requires c κs = marks-most 5 _ (sym (c .before .marks-ok .ensures) ∙ c .if1 .taken)
+opened-requires c κs = marks-most mostMarks _ (sym (c .before .marks-ok .ensures) ∙ c .if1 .taken)
 
 returns : tie.Need-returns
-returns c = ap (λ (s : Sheet). record { number = 0; sheet = s }) (c .opened .ensures) ∙ open-done _ 243 _ (sym (c .before .before .marks-ok .ensures) ∙ c .before .if1 .taken)
+returns c = ap (λ (s : Sheet). record { number = 0; sheet = s }) (c .opened .ensures) ∙ open-done _ entries _ (sym (c .before .before .marks-ok .ensures) ∙ c .before .if1 .taken)
 
 opened-requires-2 : tie.Need-opened-requires-2
 opened-requires-2 c κs = search needs
 
 returns-2 : tie.Need-returns-2
-returns-2 c = ap (λ (s : Sheet). record { number = 1; sheet = s }) (c .opened2 .ensures) ∙ open-refused _ 243 _ (sym (c .before .before .marks-ok .ensures) ∙ c .before .if1 .left)
+returns-2 c = ap (λ (s : Sheet). record { number = 1; sheet = s }) (c .opened2 .ensures) ∙ open-refused _ entries _ (sym (c .before .before .marks-ok .ensures) ∙ c .before .if1 .left)
 
 pub open-spec : {M : Type 1} → statement M
 open-spec =

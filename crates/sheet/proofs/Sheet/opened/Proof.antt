@@ -2,6 +2,7 @@
 use mathlib.Core.Path.{_∙_}
 use native.Mathlib.Omega.{arith}
 use borrow.Author.Needs.{needs}
+use Rattle.sheet.specs.Limits.{entries}
 use Rattle.sheet.proofs.Opening.{same-entry, same-addable, sheet-same}
 use Rattle.sheet.proofs.Sheet.opened.Statement.{statement}
 use Rattle.sheet.proofs.Sheet.opened.Tie as tie
@@ -18,7 +19,7 @@ afresh-requires c κs = (c .before .before .pre, same-addable _ 1 (c .before .be
 returns : tie.Need-returns
 returns c =
     let s = c .before .before .before in
-    c .afresh .ensures ∙ sheet-same 243 (s .args .m) _ _ _ _ (λ x l. same-entry (s .args .m) 1 x (s .pre) l) (λ x l. same-entry (s .args .m) 0 x (s .pre) l)
+    c .afresh .ensures ∙ sheet-same entries (s .args .m) _ _ _ _ (λ x l. same-entry (s .args .m) 1 x (s .pre) l) (λ x l. same-entry (s .args .m) 0 x (s .pre) l)
 
 pub opened-spec : {M : Type 1} → statement M
 opened-spec =

@@ -3,15 +3,15 @@ use mathlib.Core.Path.{_≡_}
 use native.Mathlib.Omega.{arith}
 use lib.ListN.{length}
 use Rattle.ground.proofs.Cases.{denied, decided-no}
+use Rattle.sheet.specs.Limits.{entries, mostMarks}
 use Rattle.sheet.proofs.Tests.{marks-most}
 use Rattle.sheet.proofs.Keeps.{class-of-ready}
 use borrow.Author.Needs.{needs}
 use Rattle.sheet.proofs.Sheet.ready.Statement.{statement}
 use Rattle.sheet.proofs.Sheet.ready.Tie as tie
 
-long : (c : tie.Start) → length (c .args .self .held) ≡ 243
+long : (c : tie.Start) → length (c .args .self .held) ≡ entries
 long c = search needs
-
 
 class-ready-requires : tie.Need-class-ready-requires
 class-ready-requires c κs = search needs
@@ -20,7 +20,7 @@ slice-aggregate-times-sound : tie.Need-slice-aggregate-times-sound
 slice-aggregate-times-sound c = search needs
 
 times-sound-requires : tie.Need-times-sound-requires
-times-sound-requires c κs = record { marks = marks-most 5 _ (c .before .before .class-ready .ensures .yes (c .before .if1 .taken) .marks); long = omega (arith, long (c .before .before .before .before)) }
+times-sound-requires c κs = record { marks = marks-most mostMarks _ (c .before .before .class-ready .ensures .yes (c .before .if1 .taken) .marks); long = omega (arith, long (c .before .before .before .before)) }
 
 returns : tie.Need-returns
 returns c =

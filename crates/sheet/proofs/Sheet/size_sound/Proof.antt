@@ -5,6 +5,7 @@ use native.Mathlib.Omega.{arith}
 use native.Mathlib.Nat.{one-le-pow}
 use Rattle.tables.specs.Tables.{entry}
 use Rattle.sheet.specs.Sound.{classOf, sizeOf}
+use Rattle.sheet.specs.Limits.{mostMarks}
 use Rattle.sheet.proofs.Classes.{size-counted}
 use Rattle.sheet.proofs.Tests.{marks-most, boxes-fit}
 use borrow.Author.Needs.{needs}
@@ -18,9 +19,8 @@ counted c =
     let all = ap (λ (n : ℕ). entry (s .outside) (n - 1)) (c .before .before .power3 .ensures .0) in
     omega (arith, all, c .power2 .ensures .0, size-counted (s .marks) (s .outside) (c .before .before .before .pre .class))
 
-
 power3-requires : tie.Need-power3-requires
-power3-requires c κs = omega (arith, marks-most 5 _ (c .pre .marks))
+power3-requires c κs = omega (arith, marks-most mostMarks _ (c .pre .marks))
 
 sub-all : tie.Need-sub-all
 sub-all c = omega (arith, c .power3 .ensures .0, one-le-pow (c .before .args .t1 .marks) 3 (omega arith))
@@ -32,7 +32,7 @@ element-copy-out-all : tie.Need-element-copy-out-all
 element-copy-out-all c = omega (arith, c .power3 .ensures .0, boxes-fit _ (c .before .pre .marks), one-le-pow (c .before .args .t1 .marks) 3 (omega arith))
 
 power2-requires : tie.Need-power2-requires
-power2-requires c κs = omega (arith, marks-most 5 _ (c .before .before .pre .marks))
+power2-requires c κs = omega (arith, marks-most mostMarks _ (c .before .before .pre .marks))
 
 cast-result : tie.Need-cast-result
 cast-result c = search needs

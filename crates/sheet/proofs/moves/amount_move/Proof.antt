@@ -6,7 +6,6 @@ use borrow.Author.Needs.{needs}
 use Rattle.sheet.proofs.moves.amount_move.Statement.{statement}
 use Rattle.sheet.proofs.moves.amount_move.Tie as tie
 
-
 amount-shift-requires : tie.Need-amount-shift-requires
 amount-shift-requires c κs = search needs
 

@@ -6,7 +6,6 @@ use borrow.Author.Needs.{needs}
 use Rattle.sheet.proofs.moves.amount_shift.Statement.{statement}
 use Rattle.sheet.proofs.moves.amount_shift.Tie as tie
 
-
 cast-t4 : tie.Need-cast-t4
 cast-t4 c = search needs
 

@@ -6,7 +6,6 @@ use borrow.Author.Needs.{needs}
 use Rattle.sheet.proofs.moves.class_move.Statement.{statement}
 use Rattle.sheet.proofs.moves.class_move.Tie as tie
 
-
 class-shift-requires : tie.Need-class-shift-requires
 class-shift-requires c κs = search needs
 

@@ -1,33 +1,13 @@
 -- Each arm is one move.
 use mathlib.Core.Path.{sym, _∙_, ap, subst}
-use Rattle.sheet.specs.declared.Call.{Call}
 use Rattle.sheet.specs.Calls.{moveOf}
 use Rattle.sheet.specs.Parts.{SmallAmount}
 use borrow.Author.Needs.{needs}
 use Rattle.sheet.proofs.moves.of_call.Statement.{statement}
 use Rattle.sheet.proofs.moves.of_call.Tie as tie
 
-
-enum-known-call : tie.Need-enum-known-call
-enum-known-call c = search needs
-
-class-move-requires : tie.Need-class-move-requires
-class-move-requires c κs = search needs
-
-enum-known-call-2 : tie.Need-enum-known-call-2
-enum-known-call-2 c = search needs
-
-class-move-requires-2 : tie.Need-class-move-requires-2
-class-move-requires-2 c κs = search needs
-
-enum-known-call-3 : tie.Need-enum-known-call-3
-enum-known-call-3 c = search needs
-
 amount-move-requires : tie.Need-amount-move-requires
 amount-move-requires c κs = subst SmallAmount (c .before .call3 .given .1) (c .before .before .before .pre)
-
-enum-known-call-4 : tie.Need-enum-known-call-4
-enum-known-call-4 c = search needs
 
 amount-move-requires-2 : tie.Need-amount-move-requires-2
 amount-move-requires-2 c κs = subst SmallAmount (c .before .call4 .given .1) (c .before .before .before .pre)
@@ -45,18 +25,6 @@ returns-4 : tie.Need-returns-4
 returns-4 c = c .amount-move2 .ensures ∙ sym (ap moveOf (c .before .before .call4 .given .1))
 
 pub of-call-spec : {M : Type 1} → statement M
-of-call-spec =
-    tie.close
-    (tie.spec
-    enum-known-call
-    class-move-requires
-    enum-known-call-2
-    class-move-requires-2
-    enum-known-call-3
-    amount-move-requires
-    enum-known-call-4
-    amount-move-requires-2
-    returns
-    returns-2
-    returns-3
-    returns-4)
+of-call-spec = tie.close (tie.spec
+    (λ c. search needs) (λ c κs. search needs) (λ c. search needs) (λ c κs. search needs) (λ c. search needs)
+    amount-move-requires (λ c. search needs) amount-move-requires-2 returns returns-2 returns-3 returns-4)

@@ -8,7 +8,7 @@ use borrow.Author.Needs.{needs}
 use Rattle.tables.specs.declared.Shift.{Shift}
 use Rattle.tables.specs.Tables.{fitsMoved, touched}
 use Rattle.tables.proofs.Touched.{touched-ext}
-use Rattle.sheet.specs.Limits.{marksOk, amountOk, mostMarks}
+use Rattle.sheet.specs.Limits.{marksOk, amountOk, mostMarks, entries}
 use Rattle.sheet.specs.Calls.{fitsAmount}
 use Rattle.sheet.proofs.Tests.{marks-most, boxes-fit, amount-most, amount-7, amount-2, amount-4, amount-last, amount-0, amount-bounds, top-small}
 use Rattle.sheet.proofs.numbers.amount_number.Statement.{statement}
@@ -33,20 +33,14 @@ judged c =
     ∙ ap₂ (λ (v : Shift) (top : ℕ). touched (a .m) (a .c) (fitsMoved (a .m) v (a .t .now) top 0)) (c .before .before .amount-shift .ensures) (c .before .most-after .ensures)
     ∙ touched-ext (a .m) (a .c) _ _ (λ b e. amount-bounds (a .m) (a .more) (a .d) (a .t .now) b (c .before .before .before .before .before .before .before .before .before .shared-slice-known .given b .fits)))
 
-marks-ok-requires : tie.Need-marks-ok-requires
-marks-ok-requires c κs = search needs
-
 returns : tie.Need-returns
 returns c = sym (amount-7 _ _ _ _ _ _ (sym (c .before .marks-ok .ensures) ∙ not-true _ (c .if1 .taken)))
 
 power2-requires : tie.Need-power2-requires
-power2-requires c κs = omega (arith, marks-most 5 _ (marks c))
+power2-requires c κs = omega (arith, marks-most mostMarks _ (marks c))
 
 returns-2 : tie.Need-returns-2
 returns-2 c = sym (amount-2 _ _ _ _ _ _ (marks (c .before .before)) (omega (arith, c .before .power2 .ensures .0)))
-
-amount-ok-requires : tie.Need-amount-ok-requires
-amount-ok-requires c κs = search needs
 
 returns-3 : tie.Need-returns-3
 returns-3 c = sym (amount-4 _ _ _ _ _ _ (marks (c .before .before .before .before)) (low (c .before .before)) (sym (c .before .amount-ok .ensures) ∙ not-true _ (c .if3 .taken)))
@@ -54,17 +48,16 @@ returns-3 c = sym (amount-4 _ _ _ _ _ _ (marks (c .before .before .before .befor
 amount-shift-requires : tie.Need-amount-shift-requires
 amount-shift-requires c κs = omega (arith, amount-most _ (amount c))
 
-most-after-requires : tie.Need-most-after-requires
-most-after-requires c κs = search needs
-
 fits-at-requires : tie.Need-fits-at-requires
 fits-at-requires c κs =
-    let ok = marks (c .before .before .before .before .before .before) in
-    (record {
-      marks = omega (arith, marks-most 5 _ ok);
-      low = low (c .before .before .before .before);
-      long = omega (arith, boxes-fit _ ok, c .before .before .before .before .before .before .before .before .before .pre);
-    }, (omega (arith, c .most-after .ensures, top-small (c .before .before .before .before .before .before .before .before .before .args .more)), omega arith))
+    let ok = marks (c .before .before .before .before .before .before) in (
+      record {
+        marks = omega (arith, marks-most mostMarks _ ok);
+        low = low (c .before .before .before .before);
+        long = omega (arith, boxes-fit _ ok, c .before .before .before .before .before .before .before .before .before .pre);
+      },
+      (omega (arith, c .most-after .ensures, top-small (c .before .before .before .before .before .before .before .before .before .args .more)), omega arith),
+    )
 
 returns-4 : tie.Need-returns-4
 returns-4 c = sym (amount-0 _ _ _ _ _ _ (marks (c .before .before .before .before .before .before .before .before)) (low (c .before .before .before .before .before .before)) (amount (c .before .before .before .before)) (judged (c .before) ∙ c .if4 .taken))
@@ -80,18 +73,6 @@ returns-6 c =
     ∙ ap (λ (t : Bool). cond t 8 9) (c .if5 .left))
 
 pub amount-number-spec : {M : Type 1} → statement M
-amount-number-spec =
-    tie.close
-    (tie.spec
-    marks-ok-requires
-    returns
-    power2-requires
-    returns-2
-    amount-ok-requires
-    returns-3
-    amount-shift-requires
-    most-after-requires
-    fits-at-requires
-    returns-4
-    returns-5
-    returns-6)
+amount-number-spec = tie.close (tie.spec
+    (λ c κs. search needs) returns power2-requires returns-2 (λ c κs. search needs) returns-3 amount-shift-requires
+    (λ c κs. search needs) fits-at-requires returns-4 returns-5 returns-6)

@@ -32,20 +32,17 @@ stood : (c : tie.After-stands)
     → let a = c .before .before .before .before .before .before .before .before .before .args in eqb (own (a .m) (a .t .now) (a .c)) (standing (a .into)) ≡ c .stands .result
 stood c = ap (λ (x : ℕ). eqb x (standing (c .before .before .before .before .before .before .before .before .before .args .into))) (sym (own-is (c .before .before))) ∙ sym (c .stands .ensures)
 
-marks-ok-requires : tie.Need-marks-ok-requires
-marks-ok-requires c κs = search needs
-
 returns : tie.Need-returns
 returns c = sym (change-7 _ _ _ _ _ (sym (c .before .marks-ok .ensures) ∙ not-true _ (c .if1 .taken)))
 
 power2-requires : tie.Need-power2-requires
-power2-requires c κs = omega (arith, marks-most 5 _ (marks c))
+power2-requires c κs = omega (arith, marks-most mostMarks _ (marks c))
 
 returns-2 : tie.Need-returns-2
 returns-2 c = sym (change-2 _ _ _ _ _ (marks (c .before .before)) (omega (arith, c .before .power2 .ensures .0)))
 
 single-requires : tie.Need-single-requires
-single-requires c κs = omega (arith, marks-most 5 _ (marks (c .before .before)))
+single-requires c κs = omega (arith, marks-most mostMarks _ (marks (c .before .before)))
 
 mul-own : tie.Need-mul-own
 mul-own c = omega (arith, boxes-fit _ (marks (c .before .before .before)), c .single .ensures .1)
@@ -56,23 +53,19 @@ shared-slice-read-own c = omega (arith, boxes-fit _ (marks (c .before .before .b
 returns-3 : tie.Need-returns-3
 returns-3 c = sym (change-own _ _ _ _ _ (marks (c .before .before .before .before .before)) (low (c .before .before .before)) (omega (arith, own-is (c .before))))
 
-stands-requires : tie.Need-stands-requires
-stands-requires c κs = search needs
-
 returns-4 : tie.Need-returns-4
 returns-4 c = sym (change-3 _ _ _ _ _ (marks (c .before .before .before .before .before .before .before)) (low (c .before .before .before .before .before)) (one (c .before .before)) (stood (c .before) ∙ c .if4 .taken))
 
-class-shift-requires : tie.Need-class-shift-requires
-class-shift-requires c κs = search needs
-
 fits-at-requires : tie.Need-fits-at-requires
 fits-at-requires c κs =
-    let ok = marks (c .before .before .before .before .before .before .before .before) in
-    (record {
-      marks = omega (arith, marks-most 5 _ ok);
-      low = low (c .before .before .before .before .before .before);
-      long = omega (arith, boxes-fit _ ok, c .before .before .before .before .before .before .before .before .before .before .before .pre);
-    }, (omega arith, omega arith))
+    let ok = marks (c .before .before .before .before .before .before .before .before) in (
+      record {
+        marks = omega (arith, marks-most mostMarks _ ok);
+        low = low (c .before .before .before .before .before .before);
+        long = omega (arith, boxes-fit _ ok, c .before .before .before .before .before .before .before .before .before .before .before .pre);
+      },
+      (omega arith, omega arith),
+    )
 
 -- the touched counts, after the move
 judged : (c : tie.After-fits-at)
@@ -89,20 +82,6 @@ returns-6 : tie.Need-returns-6
 returns-6 c = sym (change-0 _ _ _ _ _ (marks (c .before .before .before .before .before .before .before .before .before .before)) (low (c .before .before .before .before .before .before .before .before)) (one (c .before .before .before .before .before)) (stood (c .before .before .before .before) ∙ c .before .before .before .if4 .left) (judged (c .before) ∙ not-false _ (c .if5 .left)))
 
 pub change-number-spec : {M : Type 1} → statement M
-change-number-spec =
-    tie.close
-    (tie.spec
-    marks-ok-requires
-    returns
-    power2-requires
-    returns-2
-    single-requires
-    mul-own
-    shared-slice-read-own
-    returns-3
-    stands-requires
-    returns-4
-    class-shift-requires
-    fits-at-requires
-    returns-5
-    returns-6)
+change-number-spec = tie.close (tie.spec
+    (λ c κs. search needs) returns power2-requires returns-2 single-requires mul-own shared-slice-read-own returns-3
+    (λ c κs. search needs) returns-4 (λ c κs. search needs) fits-at-requires returns-5 returns-6)

@@ -7,31 +7,6 @@ use borrow.Author.Needs.{needs}
 use Rattle.sheet.proofs.numbers.of_call.Statement.{statement}
 use Rattle.sheet.proofs.numbers.of_call.Tie as tie
 
-
-enum-known-call : tie.Need-enum-known-call
-enum-known-call c = search needs
-
-change-number-requires : tie.Need-change-number-requires
-change-number-requires c κs = search needs
-
-enum-known-call-2 : tie.Need-enum-known-call-2
-enum-known-call-2 c = search needs
-
-change-number-requires-2 : tie.Need-change-number-requires-2
-change-number-requires-2 c κs = search needs
-
-enum-known-call-3 : tie.Need-enum-known-call-3
-enum-known-call-3 c = search needs
-
-amount-number-requires : tie.Need-amount-number-requires
-amount-number-requires c κs = search needs
-
-enum-known-call-4 : tie.Need-enum-known-call-4
-enum-known-call-4 c = search needs
-
-amount-number-requires-2 : tie.Need-amount-number-requires-2
-amount-number-requires-2 c κs = search needs
-
 returns : tie.Need-returns
 returns c =
     let a = c .before .before .before .before .before .before .args in
@@ -53,18 +28,6 @@ returns-4 c =
     c .amount-number2 .ensures ∙ sym (ap (numberOn mostMarks (sheetWith (a .m) (a .outside .now) (a .held .now))) (c .before .before .call4 .given .1))
 
 pub of-call-spec : {M : Type 1} → statement M
-of-call-spec =
-    tie.close
-    (tie.spec
-    enum-known-call
-    change-number-requires
-    enum-known-call-2
-    change-number-requires-2
-    enum-known-call-3
-    amount-number-requires
-    enum-known-call-4
-    amount-number-requires-2
-    returns
-    returns-2
-    returns-3
-    returns-4)
+of-call-spec = tie.close (tie.spec
+    (λ c. search needs) (λ c κs. search needs) (λ c. search needs) (λ c κs. search needs) (λ c. search needs)
+    (λ c κs. search needs) (λ c. search needs) (λ c κs. search needs) returns returns-2 returns-3 returns-4)

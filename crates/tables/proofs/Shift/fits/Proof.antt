@@ -1,7 +1,7 @@
 -- By the cases of the shift, in a type where no sum wraps.
 use Prim.Native.Nat.{ℕ, _+_, _-_}
 use mathlib.Core.Bool.{Bool, _&&_}
-use mathlib.Core.Path.{_≡_, sym, _∙_, ap, ap₂}
+use mathlib.Core.Path.{sym, _∙_, ap, ap₂}
 use native.Mathlib.Omega.{arith}
 use lib.Dec.{leb}
 use borrow.Author.Needs.{needs}
@@ -10,30 +10,6 @@ use Rattle.tables.specs.declared.Shift.{Shift}
 use Rattle.tables.specs.Tables.{fitsShifted}
 use Rattle.tables.proofs.Shift.fits.Statement.{statement}
 use Rattle.tables.proofs.Shift.fits.Tie as tie
-
-enum-told : tie.Need-enum-told
-enum-told c = search needs
-
-wide-requires : tie.Need-wide-requires
-wide-requires c κs = search needs
-
-enum-known-self : tie.Need-enum-known-self
-enum-known-self c = search needs
-
-wide-requires-2 : tie.Need-wide-requires-2
-wide-requires-2 c κs = search needs
-
-wide-requires-3 : tie.Need-wide-requires-3
-wide-requires-3 c κs = search needs
-
-add-result : tie.Need-add-result
-add-result c = search needs
-
-enum-known-self-2 : tie.Need-enum-known-self-2
-enum-known-self-2 c = search needs
-
-wide-requires-4 : tie.Need-wide-requires-4
-wide-requires-4 c κs = search needs
 
 returns : tie.Need-returns
 returns c =
@@ -61,18 +37,6 @@ returns-4 c =
     no ∙ ap (λ (t : Bool). t && leb (a .x - d .0 .0) (a .most)) (sym no) ∙ sym (ap (λ (z : Shift). fitsShifted z (a .most) (a .x)) (d .1))
 
 pub fits-spec : {M : Type 1} → statement M
-fits-spec =
-    tie.close
-    (tie.spec
-    enum-told
-    wide-requires
-    enum-known-self
-    wide-requires-2
-    wide-requires-3
-    add-result
-    enum-known-self-2
-    wide-requires-4
-    returns
-    returns-2
-    returns-3
-    returns-4)
+fits-spec = tie.close (tie.spec
+    (λ c. search needs) (λ c κs. search needs) (λ c. search needs) (λ c κs. search needs) (λ c κs. search needs)
+    (λ c. search needs) (λ c. search needs) (λ c κs. search needs) returns returns-2 returns-3 returns-4)

@@ -1,0 +1,49 @@
+-- Texts laid one behind the other, and how long a refusal is.
+use Prim.Native.Nat.{ℕ, _+_, _^_, _≤_, _<_}
+use mathlib.Core.Path.{ap}
+use mathlib.Core.Bool.{Bool, cond}
+use mathlib.Core.List.{List, [], _∷_, _++_}
+use native.Mathlib.Omega.{arith}
+use lib.ListN.{length, length-append}
+use Rattle.ground.specs.Areas.{Wrote}
+use Rattle.ground.specs.Texts.{ascii}
+use Rattle.ground.proofs.Areas.{wrote-then}
+use Rattle.print.specs.Texts.{decimal}
+use Rattle.print.proofs.Digits.{number-room}
+use Rattle.ground.proofs.Cases.{if}
+use Rattle.machine.specs.Rows.{Row}
+use Rattle.machine.specs.Machine.{refusal}
+use Rattle.machine.specs.AtHand.{isNone, cutOff}
+
+pub wrote-three : {out o₁ o₂ o₃ : List ℕ} {at r₁ r₂ r₃ : ℕ} {a b c : List ℕ} → Wrote out at a r₁ o₁ → Wrote o₁ r₁ b r₂ o₂ → Wrote o₂ r₂ c r₃ o₃
+    → at + length a + length b + length c ≤ length out → Wrote out at (a ++ b ++ c) r₃ o₃
+wrote-three {a = a} {b = b} p q r h = wrote-then (wrote-then p q (omega arith)) r (omega (arith, length-append a b))
+
+pub wrote-four : {out o₁ o₂ o₃ o₄ : List ℕ} {at r₁ r₂ r₃ r₄ : ℕ} {a b c d : List ℕ} → Wrote out at a r₁ o₁ → Wrote o₁ r₁ b r₂ o₂ → Wrote o₂ r₂ c r₃ o₃
+    → Wrote o₃ r₃ d r₄ o₄ → at + length a + length b + length c + length d ≤ length out → Wrote out at (a ++ b ++ c ++ d) r₄ o₄
+wrote-four {a = a} {b = b} {c = c} p q r s h =
+    wrote-then (wrote-three p q r (omega arith)) s (omega (arith, length-append a b, length-append (a ++ b) c))
+
+pub wrote-five : {out o₁ o₂ o₃ o₄ o₅ : List ℕ} {at r₁ r₂ r₃ r₄ r₅ : ℕ} {a b c d e : List ℕ} → Wrote out at a r₁ o₁ → Wrote o₁ r₁ b r₂ o₂
+    → Wrote o₂ r₂ c r₃ o₃ → Wrote o₃ r₃ d r₄ o₄ → Wrote o₄ r₄ e r₅ o₅ → at + length a + length b + length c + length d + length e ≤ length out
+    → Wrote out at (a ++ b ++ c ++ d ++ e) r₅ o₅
+wrote-five {a = a} {b = b} {c = c} {d = d} p q r s t h =
+    wrote-then (wrote-four p q r s (omega arith)) t (omega (arith, length-append a b, length-append (a ++ b) c, length-append (a ++ b ++ c) d))
+
+refusal-length : (k a : ℕ) → k < 2 ^ 64 → a < 2 ^ 64 → length (refusal k a) ≤ 50
+unfolding refusal
+refusal-length k a h l =
+    omega (
+      arith,
+      number-room k h,
+      number-room a l,
+      length-append (decimal k) (ascii " "),
+      length-append (decimal k ++ ascii " ") (decimal a),
+      length-append (decimal k ++ ascii " " ++ decimal a) (10 ∷ []),
+    )
+
+pub cut-off-length : (k : ℕ) (row : Row) → k < 2 ^ 64 → length (cutOff k row) ≤ 50
+cut-off-length k row h =
+    if (isNone row)
+    (λ e. omega (arith, ap (λ (t : Bool). length (cond t [] (refusal k 10))) e))
+    (λ e. omega (arith, ap (λ (t : Bool). length (cond t [] (refusal k 10))) e, refusal-length k 10 h (omega arith)))

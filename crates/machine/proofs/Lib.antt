@@ -1,0 +1,4 @@
+pub mod Laid
+pub mod AtHand
+pub mod Pieces
+pub mod Outputs

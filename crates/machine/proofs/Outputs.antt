@@ -1,0 +1,76 @@
+-- EXACTLY ONE OUTPUT FOR EACH INPUT, where a line in a state leads to one state and prints one text; and no two returns of a call on a piece.
+use Prim.Native.Nat.{ℕ, _+_}
+use mathlib.Core.Path.{_≡_, refl, sym, ap₂, _∙_, subst}
+use mathlib.Core.List.{List, [], _∷_, _++_}
+use Rattle.ground.specs.Areas.{Wrote}
+use Rattle.ground.proofs.Areas.{wrote-settled}
+use Rattle.machine.specs.Rows.{Row, rows}
+use Rattle.machine.specs.Machine.{Machine, Onward, stopped, line, Output}
+use Rattle.machine.specs.Pieces.{Position, in-line, stateIn, Takes, none, byte, newline, Finishes, ended, cut-off, FedBy, FinishedBy}
+
+-- no line in a state leads to two states or prints two texts, and no end of the input prints two
+pub record OneAnswer (M : Machine) : Type 0 where
+  pub step : {k : ℕ} {s t u : M .State} {row : Row} {a b : List ℕ} → M .step k s row t a → M .step k s row u b → (t ≡ u) × (a ≡ b)
+  pub stop : {s : M .State} {a b : List ℕ} → M .stop s a → M .stop s b → a ≡ b
+
+-- in the states that it can be in, every line and every end of the input has an answer
+pub record SomeAnswer (M : Machine) : Type 1 where
+  pub Can : M .State → Type 0
+  pub start : Can (M .start)
+  pub step : (k : ℕ) (s : M .State) (row : Row) → Can s → (t : M .State) × (now : List ℕ) × M .step k s row t now × Can t
+  pub stop : (s : M .State) → Can s → (text : List ℕ) × M .stop s text
+
+module _ {M : Machine} (one : OneAnswer M) where
+  onward-one : {k : ℕ} {s : M .State} {l : List Row} {a b : List ℕ} → Onward M k s l a → Onward M k s l b → a ≡ b
+  onward-one (stopped x) (stopped y) = one .stop x y
+  onward-one {k} (line {rest = rest} {now = a} x p) (line {now = b} {later = d} y q) =
+      let e = one .step x y in
+      ap₂ (λ (g h : List ℕ). g ++ h) (e .1) (onward-one p (subst (λ (t : M .State). Onward M (k + 1) t rest d) (sym (e .0)) q))
+
+  takes-one : {p q r : Position M} {a x y : List ℕ} → Takes M p a q x → Takes M p a r y → (q ≡ r) × (x ≡ y)
+  takes-one none none = (refl, refl)
+  takes-one (byte n p) (byte k q) = takes-one p q
+  takes-one (byte n p) (newline e q) = absurd (n refl)
+  takes-one (newline e p) (byte n q) = absurd (n refl)
+  takes-one {r = r} (newline {k} {rest = rest} e p) (newline {later = d} f q) =
+      let w = one .step e f in
+      let v = takes-one p (subst (λ (t : M .State). Takes M (in-line (k + 1) t []) rest r d) (sym (w .0)) q) in
+      (v .0, ap₂ (λ (g h : List ℕ). g ++ h) (w .1) (v .1))
+
+  finishes-one : {p : Position M} {x y : List ℕ} → Finishes M p x → Finishes M p y → x ≡ y
+  finishes-one (ended a) (ended b) = one .stop a b
+  finishes-one (cut-off e a) (cut-off {text = y} f b) =
+      let w = one .step e f in
+      ap₂ (λ (g h : List ℕ). g ++ h) (w .1) (one .stop a (subst (λ (t : M .State). M .stop t y) (sym (w .0)) b))
+
+  -- no two returns of a call
+  pub fed-one : {p q r : Position M} {a out o₁ o₂ : List ℕ} {u v w x : ℕ} → FedBy M p a out u w q o₁ → FedBy M p a out v x r o₂
+      → (q ≡ r) × (u ≡ v) × (w ≡ x) × (o₁ ≡ o₂)
+  fed-one {out = out} {o₂ = o₂} {x = x} f g =
+      let t = takes-one (f .takes) (g .takes) in
+      let w = wrote-settled (f .laid) (subst (λ (l : List ℕ). Wrote out 0 l x o₂) (sym (t .1)) (g .laid)) in
+      (t .0, f .used ∙ sym (g .used), w .0, w .1)
+
+  pub finished-one : {p : Position M} {out o₁ o₂ : List ℕ} {w x : ℕ} → FinishedBy M p out w o₁ → FinishedBy M p out x o₂ → (w ≡ x) × (o₁ ≡ o₂)
+  finished-one {out = out} {o₂ = o₂} {x = x} f g =
+      wrote-settled (f .laid) (subst (λ (l : List ℕ). Wrote out 0 l x o₂) (sym (finishes-one (f .finishes) (g .finishes))) (g .laid))
+
+  module _ (all : SomeAnswer M) where
+    -- it stays in states that it can be in
+    can-step : {k : ℕ} {s t : M .State} {row : Row} {now : List ℕ} → M .step k s row t now → all .Can s → all .Can t
+    can-step {k} {s} {row = row} e c = let w = all .step k s row c in subst (all .Can) (one .step (w .2) e .0) (w .3)
+
+    pub can-takes : {p q : Position M} {a said : List ℕ} → Takes M p a q said → all .Can (stateIn p) → all .Can (stateIn q)
+    can-takes none c = c
+    can-takes (byte n p) c = can-takes p c
+    can-takes (newline e p) c = can-takes p (can-step e c)
+
+    onward-some : (k : ℕ) (s : M .State) (l : List Row) → all .Can s → (text : List ℕ) × Onward M k s l text
+    onward-some k s [] c = let t = all .stop s c in (t .0, stopped (t .1))
+    onward-some k s (row ∷ rest) c =
+        let w = all .step k s row c in
+        let t = onward-some (k + 1) (w .0) rest (w .3) in
+        (w .1 ++ t .0, line (w .2) (t .1))
+
+    pub one-output : (input : List ℕ) → (output : List ℕ) × Output M input output × ((other : List ℕ) → Output M input other → other ≡ output)
+    one-output input = let t = onward-some 1 (M .start) (rows input) (all .start) in (t .0, t .1, λ other p. onward-one p (t .1))

@@ -1,0 +1,4 @@
+pub mod Rows
+pub mod Machine
+pub mod Pieces
+pub mod AtHand
