@@ -1,15 +1,15 @@
 -- What the contract of `list` says of the list it gives, and what follows of every first shortest list.
 use Prim.Native.Nat.{ℕ, suc, _-_, _^_, _≤_}
 use mathlib.Core.Path.{_≡_, refl, sym, _∙_, ap, subst, transport}
-use mathlib.Core.Bool.{Bool, true}
+use mathlib.Core.Bool.{Bool, true, _&&_}
 use mathlib.Core.List.{List}
 use native.Mathlib.Omega.{arith}
-use lib.Dec.{leb}
+use lib.Dec.{eqb, leb}
 use lib.ListN.{length}
-use borrow.Author.Tests.{leb-true}
-use Rattle.ground.proofs.Cases.{and-left}
+use borrow.Author.Tests.{leb-true, le-ltb}
+use Rattle.ground.proofs.Cases.{clash, below-or, and-left}
 use Rattle.boxes.specs.Sums.{sumOver}
-use Rattle.tables.specs.Tables.{entry}
+use Rattle.tables.specs.Tables.{entry, own}
 use Rattle.lists.specs.Lists.{Small, FirstShortest}
 use Rattle.lists.proofs.Class.{rising-same}
 use Rattle.lists.proofs.Exist.{exists, at-most-half}
@@ -19,7 +19,6 @@ use Rattle.sheet.specs.Limits.{mostMarks, marksOk}
 use Rattle.sheet.specs.Sound.{ClassReady, recordOf}
 use Rattle.sheet.specs.declared.Sheet.{Sheet}
 use Rattle.sheet.specs.declared.Value.{Value}
-use Rattle.sheet.proofs.Kept.{class-below}
 use Rattle.listing.specs.Listing.{totalOf, Searched, Listed, Totalled}
 use Rattle.listing.proofs.Lines.{kept-total}
 use Rattle.demands.specs.Demand2.{Lines, Printed, Demand2}
@@ -40,8 +39,11 @@ lines m class l some small f =
     }
 
 module _ (s : Sheet) where
+  -- no class that counts tell has a number that is no combination
   small : Small (s .marks) (recordOf s .class)
-  small = class-below (s .marks) (s .outside)
+  small c e =
+      below-or c (2 ^ s .marks) (λ l. l)
+      (λ l. clash e (ap (λ (t : Bool). t && eqb (own (s .marks) (s .outside) c) 0) (le-ltb c (2 ^ s .marks) l)))
 
   given : {area later : List ℕ} {v : Value} → Listed mostMarks s area v later → ClassReady mostMarks s → 2 ^ s .marks ≤ length area → v .number ≡ 0
   given (Listed.spoiled n) r l = absurd (n r)
