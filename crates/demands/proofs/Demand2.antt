@@ -21,7 +21,9 @@ use Rattle.sheet.specs.declared.Sheet.{Sheet}
 use Rattle.sheet.specs.declared.Value.{Value}
 use Rattle.listing.specs.Listing.{totalOf, Searched, Listed, Totalled}
 use Rattle.listing.proofs.Lines.{kept-total}
-use Rattle.demands.specs.Demand2.{Lines, Printed, Demand2}
+use Rattle.vault.specs.Entries.{Lends}
+use Rattle.vault.specs.declared.Reply.{Reply}
+use Rattle.demands.specs.Demand2.{Lines, Printed, PrintedIn, Demand2}
 
 some-marks : (most m : ℕ) → marksOk most m ≡ true → 1 ≤ m
 unfolding marksOk
@@ -73,5 +75,9 @@ module _ (s : Sheet) where
     seconds = λ t. seconds f t;
   }
 
+entry-printed : {t area later : List ℕ} {r : Reply} → Lends (Listed mostMarks) t area r later → r .answer ≡ 0 → PrintedIn t area r later
+entry-printed (Lends.unread u) z = absurd (u .bad (sym (ap (λ (x : Reply). x .answer) (u .reply)) ∙ z))
+entry-printed (Lends.lent {s = s} h w) z = record { sheet = s; held-in = h; printed = printed s w z }
+
 pub demand-2 : Demand2
-demand-2 = record { given = λ {s} w. given s w; printed = λ {s} w. printed s w; total = λ {s} w. total s w }
+demand-2 = record { given = λ {s} w. given s w; printed = λ {s} w. printed s w; entry = entry-printed; total = λ {s} w. total s w }

@@ -14,6 +14,8 @@ use Rattle.sheet.specs.Sound.{ClassReady, recordOf}
 use Rattle.sheet.specs.declared.Sheet.{Sheet}
 use Rattle.sheet.specs.declared.Value.{Value}
 use Rattle.listing.specs.Listing.{totalOf, Listed, Totalled}
+use Rattle.vault.specs.Entries.{Holds, Lends}
+use Rattle.vault.specs.declared.Reply.{Reply}
 
 -- the lines of a class of m marks
 pub record Lines (m : ℕ) (class : ℕ → Bool) (l : List ℕ) : Type 0 where
@@ -36,9 +38,17 @@ pub record Printed (s : Sheet) (area : List ℕ) (v : Value) (later : List ℕ) 
   -- what the sheet keeps of the lines adds up to what `total` answers
   pub seconds : {t : Value} → Totalled mostMarks s t → t .number ≡ 0 → sumOver lines (entry (s .held)) ≡ t .value
 
+pub record PrintedIn (t area : List ℕ) (r : Reply) (later : List ℕ) : Type 0 where
+  pub sheet : Sheet
+  pub held-in : Holds t sheet
+  pub printed : Printed sheet area (record { number = r .answer; value = r .value }) later
+
 pub record Demand2 : Type 0 where
   -- a sound class gets its list wherever there is room: 6 never comes
-  pub given : {s : Sheet} {area later : List ℕ} {v : Value} → Listed mostMarks s area v later → ClassReady mostMarks s → 2 ^ s .marks ≤ length area → v .number ≡ 0
+  pub given : {s : Sheet} {area later : List ℕ} {v : Value} → Listed mostMarks s area v later
+      → ClassReady mostMarks s → 2 ^ s .marks ≤ length area → v .number ≡ 0
   pub printed : {s : Sheet} {area later : List ℕ} {v : Value} → Listed mostMarks s area v later → v .number ≡ 0 → Printed s area v later
+  -- and through C, of the sheet that the lent bytes hold
+  pub entry : {t area later : List ℕ} {r : Reply} → Lends (Listed mostMarks) t area r later → r .answer ≡ 0 → PrintedIn t area r later
   -- the class total is the seconds held in the class
   pub total : {s : Sheet} {v : Value} → Totalled mostMarks s v → v .number ≡ 0 → v .value ≡ totalOf (recordOf s)

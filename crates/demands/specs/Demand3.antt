@@ -25,7 +25,7 @@ use Rattle.vault.specs.Entries.{replied, Put, Tells, Lends, KeptAt}
 use Rattle.vault.specs.Sequences.{Entry, Serves, entryNumber, afterEntry}
 use Rattle.vault.specs.declared.Reply.{Reply}
 
--- how a history begins, and with which record: with an opened sheet, or with what was read
+-- how a history begins, and with which record: with an opened sheet, or with what was read (a refused one gives the sheet of `opening 1`: `demand-1`)
 pub data Begins : Sheet → Record → Type 0 where
   opening : (m : ℕ) → openOf mostMarks entries m .number ≡ 0 → Begins (openOf mostMarks entries m .sheet) (opened m)
   reading : {t : List ℕ} {a : Read} {r : Record} → Bytes t → Reads mostMarks entries t a → Reading mostMarks t (good r) → Begins (a .sheet) r
@@ -68,4 +68,5 @@ pub record Demand3 : Type 0 where
   -- one accepted change, of whatever sheet, alters the numbers of exactly the boxes that contain its combination, each of them, and no other
   pub alters : (s : Sheet) (k : Call) → didOf mostMarks s k .number ≡ 0 → Altered (moveOf k) s (didOf mostMarks s k .sheet)
   -- and these are 2^m
-  pub touched : (s : Sheet) (k : Call) → didOf mostMarks s k .number ≡ 0 → sum (3 ^ s .marks) (λ b. only (contains (s .marks) b (moveOf k .at)) 1) ≡ 2 ^ s .marks
+  pub touched : (s : Sheet) (k : Call) → didOf mostMarks s k .number ≡ 0
+      → sum (3 ^ s .marks) (λ b. only (contains (s .marks) b (moveOf k .at)) 1) ≡ 2 ^ s .marks

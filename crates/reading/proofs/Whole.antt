@@ -13,7 +13,8 @@ use Rattle.boxes.proofs.Boxes.{sumIn-all}
 use Rattle.boxes.proofs.Sums.{sum-zero, sum-ext, sum-le, sum-ones}
 use Rattle.tables.specs.Tables.{entry}
 use Rattle.sheet.specs.Limits.{mostMarks, entries, marksOk}
-use Rattle.sheet.specs.Record.{Record, opened, outOf, sheetFrom, Addable}
+use Rattle.sheet.specs.Record.{Record, opened, outOf, sheetFrom}
+use Rattle.sheet.specs.Parts.{Addable}
 use Rattle.sheet.specs.declared.Sheet.{Sheet}
 use Rattle.sheet.proofs.Opening.{combinations-fit, sheet-same}
 use Rattle.stored.specs.declared.Read.{Read}
