@@ -4,3 +4,4 @@ pub mod Choices
 pub mod Masks
 pub mod Numbers
 pub mod Highest
+pub mod Count

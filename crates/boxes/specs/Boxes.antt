@@ -1,7 +1,6 @@
 -- Combinations and boxes over m marks (01, 'Terms'). A number is taken apart low mark first: c % 2 is mark 0 of the combination c and c / 2 has
 -- the other marks, b % 3 is the digit of the box b at mark 0 and b / 3 has the other digits.
-use Prim.Native.Nat.{ℕ, zero, suc, _+_, _*_, _-_, _/_, _%_, _^_, _<_, max}
-use mathlib.Core.Path.{_≡_}
+use Prim.Native.Nat.{ℕ, zero, suc, _+_, _*_, _-_, _/_, _%_, _^_, max}
 use mathlib.Core.Bool.{Bool, _&&_, _||_}
 use lib.Dec.{eqb}
 use Rattle.boxes.specs.Sums.{sum, only}
@@ -47,8 +46,3 @@ single m c = through m c 0
 -- the box with every mark free
 abbrev pub allFree : ℕ → ℕ
 allFree m = 3 ^ m - 1
-
--- a free mark of b, told by its power of 3, where b has one: b without that power once is b with the mark on, and without it twice b with the mark off
-pub data FreePower (m b : ℕ) : ℕ → Type 0 where
-  none : freeMarks m b ≡ 0 → FreePower m b 0
-  at : (i : ℕ) → i < m → b / 3 ^ i % 3 ≡ 2 → FreePower m b (3 ^ i)

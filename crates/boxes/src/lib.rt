@@ -3,7 +3,8 @@ ghost use mathlib.Core.Path.{_≡_};
 ghost use Prim.Native.Nat.{_+_, _*_, _-_, _/_, _%_, _^_, _<_, _≤_};
 ghost use lib.Dec.{eqb};
 ghost use lib.Bits.{bitAnd};
-ghost use Rattle.boxes.specs.Boxes.{contains, freeMarks, lowest, through, single, FreePower};
+ghost use Rattle.boxes.specs.Boxes.{contains, freeMarks, lowest, through, single};
+ghost use Rattle.boxes.specs.Parts.{FreePower};
 
 // The number of combinations of m marks.
 pub fn power2(m: usize) -> usize

@@ -5,11 +5,11 @@ use mathlib.Core.Bool.{Bool, true, false, _||_}
 use mathlib.Core.List.{List, [], _∷_, _++_}
 use native.Mathlib.Omega.{arith}
 use lib.Dec.{eqb}
-use Rattle.boxes.specs.Boxes.{sumIn, contains, agrees}
+use Rattle.boxes.specs.Boxes.{sumIn, contains, agrees, through}
 use Rattle.boxes.specs.Sums.{sum}
-use Rattle.lists.specs.Lists.{FirstShortest}
-use Rattle.lists.specs.Known.{among, table, Shown}
-use Rattle.lists.proofs.Known.{known}
+use Rattle.lists.specs.Lists.{among, firstFrom, FirstShortest}
+use Rattle.lists.proofs.Known.{below, alike, gives, firstIs, known-list}
+use Rattle.lists.proofs.Model.{laying, trying, seeking, fewest}
 use Rattle.ground.specs.Texts.{ascii}
 use Rattle.times.specs.Texts.{Readable}
 use Rattle.print.specs.Texts.{decimal, decimalIn, clock, pattern}
@@ -34,10 +34,10 @@ class : ℕ → Bool
 class x = ((false || eqb x 1) || eqb x 2) || eqb x 3
 
 list : FirstShortest 2 class class (1 ∷ 5 ∷ [])
-unfolding table Shown among class
+unfolding class among firstIs gives alike below agrees contains through firstFrom laying trying seeking fewest
 list =
     subst (λ (p : ℕ → Bool). FirstShortest 2 p p (1 ∷ 5 ∷ [])) (fun-ext {f = among (1 ∷ 2 ∷ 3 ∷ [])} (λ x. entered (eqb x 1) (eqb x 2) (eqb x 3)))
-    (known .1 .1 .1 .1 .1 .0)
+    (known-list 2 (1 ∷ 2 ∷ 3 ∷ []) (1 ∷ 5 ∷ []) refl)
 
 time-605 : Readable (ascii "10:05") 605
 unfolding clock decimal decimalIn

@@ -2,7 +2,7 @@
 use Prim.Native.Nat.{ℕ, _^_, _≤_}
 use mathlib.Core.Path.{_≡_, refl, sym, _∙_, ap, ap₂, subst}
 use mathlib.Core.Bool.{Bool, cond}
-use mathlib.Core.List.{List, _∷_}
+use mathlib.Core.List.{List, [], _∷_}
 use native.Mathlib.Omega.{arith}
 use lib.ListN.{length}
 use borrow.Author.Tests.{lt-ltb, le-ltb}
@@ -14,10 +14,9 @@ use Rattle.sheet.specs.declared.Sheet.{Sheet}
 use Rattle.sheet.specs.declared.Answer.{Answer}
 use Rattle.sheet.specs.declared.Value.{Value}
 use Rattle.stored.specs.Answers.{Reads, Writes, spoiled, short, written}
-use Rattle.stored.specs.Fields.{good, Reading}
+use Rattle.stored.specs.Fields.{Bytes, good, Reading}
 use Rattle.stored.specs.Form.{form}
 use Rattle.stored.specs.declared.Read.{Read}
-use Rattle.stored.proofs.Numbers.{Bytes}
 use Rattle.stored.proofs.IsForm.{is-form}
 use Rattle.stored.proofs.Trips.{form-same, told-agrees, read-good, travels}
 use Rattle.histories.specs.Histories.{Good, afterAll, numbersOf}
@@ -70,15 +69,23 @@ pub lives-afresh : (r : Record) → Good r → {es : List Event} {ns : List ℕ}
 lives-afresh r g l = from r g refl l
 
 -- any other sheet that is read begins its history with what was read
+
+pub good-read : {t : List ℕ} {r : Record} → Bytes t → Reading mostMarks t (good r) → Good r
+good-read {t} {r} b x =
+    let k = is-form t b x in
+    record {
+      marks = k .storable .marks;
+      class = λ c e. below-or c (2 ^ r .marks) (λ l. l) (λ l. clash e (k .within .class c l));
+      times = k .storable .most-held;
+    }
+
 pub begins : (t : List ℕ) {a : Read} → Bytes t → Reads mostMarks entries t a → a .number ≡ 0
     → (r : Record) × Reading mostMarks t (good r) × Good r × (a .sheet ≡ sheetOf entries r)
 begins t {a} b x z =
     let w = read-good 5 entries five x z in
-    let r = w .0 in
-    let k = is-form t b (w .1) in
-    let g : Good r = record {
-      marks = k .storable .marks;
-      class = λ c e. below-or c (2 ^ r .marks) (λ l. l) (λ l. clash e (k .within .class c l));
-      times = k .storable .most-held;
-    } in
-    (r, w .1, g, ap (λ (y : Read). y .sheet) (w .2))
+    (w .0, w .1, good-read b (w .1), ap (λ (y : Read). y .sheet) (w .2))
+
+pub good-events : (r : Record) → Good r → (es : List Event) → Good (afterAll afterEvent r es)
+unfolding afterAll
+good-events r g [] = g
+good-events r g (e ∷ es) = good-events (afterEvent r e) (good-event r g e) es

@@ -2,3 +2,4 @@ pub mod Filled
 pub mod Given
 pub mod Settled
 pub mod Lines
+pub mod Agrees

@@ -5,6 +5,8 @@ use mathlib.Core.List.{List, _++_}
 use lib.ListN.{length, drop}
 use Rattle.boxes.specs.Sums.{sum, only}
 use Rattle.lists.specs.Lists.{Fits, FirstShortest}
+use Rattle.seek.specs.declared.Found.{Found}
+use Rattle.seek.specs.declared.Found.the-variants.{Boxes, Nothing}
 use Rattle.sheet.specs.Record.{Record}
 use Rattle.sheet.specs.Sound.{ClassReady, Ready, recordOf}
 use Rattle.sheet.specs.declared.Sheet.{Sheet}
@@ -18,11 +20,16 @@ taken class times c = only (class c) (times c)
 abbrev pub totalOf : Record → ℕ
 totalOf r = sum (2 ^ r .marks) (taken (r .class) (r .times))
 
--- the search's answer for a class of m marks: 6 if no list fits; or else the first shortest list at the front of the area, one byte for each box,
+-- 01's number and value for what the search found: 0 and how many boxes, or 6
+abbrev pub foundOf : Found → Value
+foundOf (Boxes n) = record { number = 0; value = n }
+foundOf Nothing = record { number = 6; value = 0 }
+
+-- the search's answer for a class of m marks: nothing if no list fits; or else the first shortest list at the front of the area, one byte for each box,
 -- and the bytes behind it as they were
 pub data Searched (m : ℕ) (class : ℕ → Bool) (area : List ℕ) : Value → List ℕ → Type 0 where
-  none : ((l : List ℕ) → Fits m class class l → ⊥) → Searched m class area (record { number = 6; value = 0 }) area
-  given : {l : List ℕ} → FirstShortest m class class l → Searched m class area (record { number = 0; value = length l }) (l ++ drop (length l) area)
+  none : ((l : List ℕ) → Fits m class class l → ⊥) → Searched m class area (foundOf Nothing) area
+  given : {l : List ℕ} → FirstShortest m class class l → Searched m class area (foundOf (Boxes (length l))) (l ++ drop (length l) area)
 
 -- what `list` answers and leaves in the lent area: 7, 5, and then what the search finds for the class that the counts tell
 pub data Listed (most : ℕ) (s : Sheet) (area : List ℕ) : Value → List ℕ → Type 0 where

@@ -3,13 +3,13 @@
 use mathlib.Core.Path.{_≡_, refl, ap₂}
 use mathlib.Core.Bool.{Bool, _&&_, and-false}
 use mathlib.Core.List.{List, [], _∷_}
-use Prim.Native.Nat.{ℕ, _<_}
+use Prim.Native.Nat.{ℕ}
 use native.Mathlib.Omega.{arith}
 use Rattle.boxes.specs.Boxes.{contains, lowest}
 use Rattle.ground.proofs.Cases.{if}
 use Rattle.boxes.proofs.Boxes.{contains-combination}
 use Rattle.boxes.proofs.Choices.{lowest-contained, lowest-least}
-use Rattle.lists.specs.Lists.{lowestNeeded, Ahead, Rising}
+use Rattle.lists.specs.Lists.{lowestNeeded, Ahead, Rising, LowAhead, LowRising}
 use Rattle.lists.specs.Pottosin.{Interval, Independent}
 use Rattle.lists.proofs.Fit.{lowest-is}
 
@@ -20,22 +20,13 @@ module _ (m : ℕ) (class : ℕ → Bool) where
       lowest-is m (λ c. class c && contains m b c) (lowest m b) (rw (i .1 (lowest m b) here, here)) (contains-combination m b (lowest m b) here)
       (λ d l. if (contains m b d) (λ t. absurd (omega (arith, lowest-least m b d t))) (λ t. rw (t, and-false (class d))))
 
-  -- in rising order of each box's lowest combination, in these words
-  unfoldable pub LowAhead : ℕ → List ℕ → Type 0
-  LowAhead b [] = Unit {0}
-  LowAhead b (a ∷ l) = (lowest m b < lowest m a) × LowAhead b l
-
-  unfoldable pub LowRising : List ℕ → Type 0
-  LowRising [] = Unit {0}
-  LowRising (b ∷ l) = LowAhead b l × LowRising l
-
-  ahead-same : (b : ℕ) (l : List ℕ) → Interval m class b → Independent m class l → Ahead m class b l ≡ LowAhead b l
+  ahead-same : (b : ℕ) (l : List ℕ) → Interval m class b → Independent m class l → Ahead m class b l ≡ LowAhead m b l
   unfolding Ahead LowAhead Independent
   ahead-same b [] i g = refl
   ahead-same b (a ∷ l) i g =
       rw (lowest-needed b i, lowest-needed a (g .0), ahead-same b l i (g .2))
 
-  pub rising-same : (l : List ℕ) → Independent m class l → Rising m class l ≡ LowRising l
+  pub rising-same : (l : List ℕ) → Independent m class l → Rising m class l ≡ LowRising m l
   unfolding Rising LowRising Independent
   rising-same [] g = refl
   rising-same (b ∷ l) g = ap₂ (λ (A B : Type 0). A × B) (ahead-same b l (g .0) (g .2)) (rising-same l (g .2))

@@ -1,4 +1,4 @@
--- Each row of the table of known sheets: its list is the first shortest of its class. The search is computed once over the whole table.
+-- The first shortest list of a class told by its combinations is computed by the model of the search: for known sheets.
 use mathlib.Core.Path.{_≡_, refl, sym, subst}
 use mathlib.Core.Bool.{Bool, true, false, _&&_, false≢true}
 use mathlib.Core.List.{List, [], _∷_}
@@ -6,37 +6,28 @@ use mathlib.Core.Option.{Option, none, some}
 use Prim.Native.Nat.{ℕ, _+_, _^_, _<_}
 use lib.Dec.{eqb, ltb}
 use borrow.Author.Tests.{eqb-true, ltb-true}
-use Rattle.boxes.specs.Boxes.{agrees, contains, through}
 use Rattle.ground.proofs.Cases.{if, and-left, and-right}
-use Rattle.lists.specs.Lists.{firstFrom, FirstShortest, Small}
-use Rattle.lists.specs.Known.{among, Example, table, Shown}
-use Rattle.lists.proofs.Model.{laying, trying, seeking, fewest, found}
+use Rattle.lists.specs.Lists.{among, FirstShortest, Small}
+use Rattle.lists.proofs.Model.{fewest, found}
 
 -- each is below n
-below : ℕ → List ℕ → Bool
+unfoldable pub below : ℕ → List ℕ → Bool
 below n [] = true
 below n (x ∷ l) = ltb x n && below n l
 
-alike : List ℕ → List ℕ → Bool
+unfoldable pub alike : List ℕ → List ℕ → Bool
 alike [] [] = true
 alike [] (b ∷ k) = false
 alike (a ∷ l) [] = false
 alike (a ∷ l) (b ∷ k) = eqb a b && alike l k
 
-gives : Option (List ℕ) → List ℕ → Bool
+unfoldable pub gives : Option (List ℕ) → List ℕ → Bool
 gives none l = false
 gives (some k) l = alike k l
 
-good : Example → Bool
-good s = below (2 ^ s .m) (s .class) && gives (fewest (s .m) (among (s .class)) (among (s .class)) (2 ^ s .m + 1) 0) (s .list)
-
-all-good : List Example → Bool
-all-good [] = true
-all-good (s ∷ l) = good s && all-good l
-
-computed : all-good table ≡ true
-unfolding all-good good gives alike below table among agrees contains through firstFrom laying trying seeking fewest
-computed = refl
+-- whether the list is the one that the search finds
+unfoldable pub firstIs : ℕ → List ℕ → List ℕ → Bool
+firstIs m class list = below (2 ^ m) class && gives (fewest m (among class) (among class) (2 ^ m + 1) 0) list
 
 below-small : (m : ℕ) (l : List ℕ) → below (2 ^ m) l ≡ true → Small m (among l)
 unfolding below among
@@ -60,16 +51,10 @@ unfolding gives
 gives-same none l k e q = absurd (false≢true e)
 gives-same (some j) l k e q = let p = alike-same j l e in cc
 
-shown : (l : List Example) → all-good l ≡ true → Shown l
-unfolding all-good good Shown
-shown [] e = tt
-shown (s ∷ l) e =
-    let p = among (s .class) in
-    let g = and-left (good s) _ e in
-    let r = found (s .m) p p (below-small (s .m) (s .class) (and-left _ _ g)) (λ c t. t) in
-    let q = gives-same (fewest (s .m) p p (2 ^ s .m + 1) 0) (s .list) (r .0) (and-right (below (2 ^ s .m) (s .class)) _ g) (r .1) in
-    (subst (FirstShortest (s .m) p p) q (r .2), shown l (and-right (good s) _ e))
-
--- THE KNOWN SHEETS
-pub known : Shown table
-known = shown table computed
+pub known-list : (m : ℕ) (class list : List ℕ) → firstIs m class list ≡ true → FirstShortest m (among class) (among class) list
+unfolding firstIs
+known-list m class list e =
+    let p = among class in
+    let r = found m p p (below-small m class (and-left _ _ e)) (λ c t. t) in
+    let q = gives-same (fewest m p p (2 ^ m + 1) 0) list (r .0) (and-right (below (2 ^ m) class) _ e) (r .1) in
+    subst (FirstShortest m p p) q (r .2)

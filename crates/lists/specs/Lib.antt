@@ -1,4 +1,3 @@
 pub mod Lists
-pub mod Known
 pub mod Pottosin
 pub mod Compared

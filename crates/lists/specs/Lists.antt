@@ -5,8 +5,9 @@ use mathlib.Core.Logic.{_⊎_}
 use mathlib.Core.Bool.{Bool, true, false, _&&_, _||_}
 use mathlib.Core.List.{List, [], _∷_}
 use Prim.Native.Nat.{ℕ, zero, suc, _^_, _≤_, _<_}
+use lib.Dec.{eqb}
 use lib.ListN.{length}
-use Rattle.boxes.specs.Boxes.{contains}
+use Rattle.boxes.specs.Boxes.{contains, lowest}
 
 -- each is the number of a box over m marks
 unfoldable pub Boxes : ℕ → List ℕ → Type 0
@@ -43,6 +44,11 @@ unfoldable pub firstFrom : (ℕ → Bool) → ℕ → ℕ → ℕ
 firstFrom p zero f = f
 firstFrom p (suc k) f = elim (p f) [ true ↦ f | false ↦ firstFrom p k (suc f) ]
 
+-- the set of the combinations listed
+unfoldable pub among : List ℕ → ℕ → Bool
+among [] c = false
+among (x ∷ l) c = eqb c x || among l c
+
 -- the lowest combination of a set, and 2^m where there is none
 abbrev pub lowestOf : ℕ → (ℕ → Bool) → ℕ
 lowestOf m p = firstFrom p (2 ^ m) 0
@@ -60,6 +66,16 @@ Ahead m need b (a ∷ l) = (lowestNeeded m need b < lowestNeeded m need a) × Ah
 unfoldable pub Rising : ℕ → (ℕ → Bool) → List ℕ → Type 0
 Rising m need [] = Unit {0}
 Rising m need (b ∷ l) = Ahead m need b l × Rising m need l
+
+-- and, of boxes inside a class, in rising order of each box's lowest combination: for a class the two are the same (`rising-same` in proofs/Class)
+
+unfoldable pub LowAhead : ℕ → ℕ → List ℕ → Type 0
+LowAhead m b [] = Unit {0}
+LowAhead m b (a ∷ l) = (lowest m b < lowest m a) × LowAhead m b l
+
+unfoldable pub LowRising : ℕ → List ℕ → Type 0
+LowRising m [] = Unit {0}
+LowRising m (b ∷ l) = LowAhead m b l × LowRising m l
 
 -- of two lists of one length: the smaller box number at the first place where they differ
 unfoldable pub Smaller : List ℕ → List ℕ → Type 0

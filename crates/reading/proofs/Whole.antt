@@ -13,15 +13,15 @@ use Rattle.boxes.proofs.Boxes.{sumIn-all}
 use Rattle.boxes.proofs.Sums.{sum-zero, sum-ext, sum-le, sum-ones}
 use Rattle.tables.specs.Tables.{entry}
 use Rattle.sheet.specs.Limits.{mostMarks, entries, marksOk}
-use Rattle.sheet.specs.Record.{Record, opened, outOf, sheetFrom, Addable}
+use Rattle.sheet.specs.Record.{Record, opened, outOf, sheetFrom}
+use Rattle.sheet.specs.Parts.{Addable}
 use Rattle.sheet.specs.declared.Sheet.{Sheet}
 use Rattle.sheet.proofs.Opening.{combinations-fit, sheet-same}
 use Rattle.stored.specs.declared.Read.{Read}
 use Rattle.stored.specs.declared.Section.the-variants.{Class, Held}
 use Rattle.stored.specs.Sections.{sections}
-use Rattle.stored.specs.Fields.{due, marks, sectionsDue, judge, good, refused, Reading}
+use Rattle.stored.specs.Fields.{Bytes, due, marks, sectionsDue, judge, good, refused, Reading}
 use Rattle.stored.specs.Answers.{readOf, Reads}
-use Rattle.stored.proofs.Numbers.{Bytes}
 use Rattle.stored.proofs.IsForm.{is-form}
 use Rattle.reading.specs.Parts.{Leads, withOwn, ReadBefore}
 use Rattle.reading.proofs.Offsets.{number-first, leads-field, faulty-at}

@@ -13,18 +13,13 @@ use Rattle.lists.proofs.First.{unique}
 use Rattle.lists.proofs.Exist.{exists}
 use Rattle.seek.specs.declared.Found.{Found}
 use Rattle.seek.specs.declared.Found.the-variants.{Boxes, Nothing}
-use Rattle.seek.specs.Answer.{Sought}
+use Rattle.seek.specs.Answer.{Sought, foundList}
 
 -- no list of up to 2 ^ m boxes: no list at all
 pub none-fits : (m : ℕ) (need room : ℕ → Bool) (k : ℕ) → Small m need → AtLeast m need room k → 2 ^ m < k → (l : List ℕ) → Fits m need room l → ⊥
 none-fits m need room k s least h l f =
     let x = exists m need room s (fits-small m f) in
     omega (arith, least (x .0) (x .1), x .2)
-
--- the list that an answer tells
-abbrev pub foundList : Found → List ℕ → List ℕ
-foundList (Boxes n) area = take n area
-foundList Nothing area = []
 
 -- NO TWO ANSWERS
 pub settled : (m : ℕ) (need room : ℕ → Bool) (r q : Found) (xs ys : List ℕ) → Sought m need room r xs → Sought m need room q ys

@@ -1,6 +1,6 @@
 -- What the search answers, for sets of combinations told as numbers.
 use mathlib.Core.Bool.{Bool}
-use mathlib.Core.List.{List}
+use mathlib.Core.List.{List, []}
 use Prim.Native.Nat.{ℕ, zero, suc, _/_, _%_, _^_, _<_, _≤_}
 use lib.Dec.{eqb}
 use lib.ListN.{length, take}
@@ -25,3 +25,8 @@ Askable m need area = (m ≤ setMarks) × (need < 2 ^ (2 ^ m)) × (2 ^ m ≤ len
 abbrev pub Sought : ℕ → (ℕ → Bool) → (ℕ → Bool) → Found → List ℕ → Type 0
 Sought m need room (Boxes n) area = (n ≤ length area) × FirstShortest m need room (take n area)
 Sought m need room Nothing area = (l : List ℕ) → Fits m need room l → ⊥
+
+-- the list that an answer tells: what stands behind it in the area is the search's own
+abbrev pub foundList : Found → List ℕ → List ℕ
+foundList (Boxes n) area = take n area
+foundList Nothing area = []

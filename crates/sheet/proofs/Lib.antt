@@ -6,4 +6,5 @@ pub mod Kept
 pub mod Alters
 pub mod Keeps
 pub mod Above
+pub mod Agrees
 pub mod Settled

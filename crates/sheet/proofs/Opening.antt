@@ -11,7 +11,8 @@ use Rattle.tables.specs.Tables.{entry}
 use Rattle.tables.proofs.Entries.{afresh-ext}
 use Rattle.sheet.proofs.Tests.{size-fits}
 use Rattle.sheet.specs.declared.Sheet.{Sheet}
-use Rattle.sheet.specs.Record.{Addable, sheetFrom}
+use Rattle.sheet.specs.Record.{sheetFrom}
+use Rattle.sheet.specs.Parts.{Addable}
 
 pub combinations-fit : (m : ℕ) → m ≤ 5 → 2 ^ m ≤ 32
 combinations-fit m l = pow-le-pow-right {n = 2} (omega arith) {i = m} {j = 5} l

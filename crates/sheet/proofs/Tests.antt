@@ -11,8 +11,8 @@ use borrow.Author.Tests.{le-leb, lt-leb, le-ltb, lt-ltb, leb-true}
 use Rattle.ground.proofs.Cases.{if, below-or, and-left, and-right}
 use Rattle.boxes.specs.Boxes.{contains, freeCount, freeMarks}
 use Rattle.boxes.proofs.Choices.{freeMarks-lt, freeCount-ones}
-use Rattle.tables.specs.Tables.{entry, own, fitsShifted, fitsMoved, touched}
-use Rattle.tables.specs.Parts.{Bears, AllBear}
+use Rattle.tables.specs.Tables.{entry, own, fitsShifted, touched}
+use Rattle.tables.specs.Parts.{Bears, AllBear, fitsMoved}
 use Rattle.tables.proofs.Touched.{touched-at}
 use Rattle.sheet.specs.Limits.{marksOk, amountOk, mostHeld, mostMarks, entries}
 use Rattle.sheet.specs.Record.{Table, outside-counts, held-seconds, kept}

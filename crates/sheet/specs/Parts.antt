@@ -4,6 +4,8 @@ use mathlib.Core.Path.{_≡_}
 use mathlib.Core.Bool.{true}
 use mathlib.Core.List.{List}
 use lib.ListN.{length}
+use Rattle.boxes.specs.Boxes.{sumIn, allFree}
+use Rattle.tables.specs.Tables.{entry}
 use Rattle.tables.specs.Parts.{AllBear}
 use Rattle.sheet.specs.Limits.{mostMarks, entries, marksOk}
 use Rattle.sheet.specs.Record.{Table, kept}
@@ -36,3 +38,8 @@ pub record Accepted (s : Sheet) (v : Move) : Type 0 where
   pub low : v .at < 2 ^ s .marks
   pub bear : (t : Table) → AllBear (s .marks) (v .at) (shiftIn t v) (kept t s)
   pub some : (t : Table) → SomeShift (shiftIn t v)
+
+-- a list with a number for each combination, which add up below 2^32
+pub record Addable (m : ℕ) (own : List ℕ) : Type 0 where
+  pub long : 2 ^ m ≤ length own
+  pub sum : sumIn m (allFree m) (entry own) < 2 ^ 32

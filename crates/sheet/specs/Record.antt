@@ -1,12 +1,10 @@
 -- What a sheet is about, without any kept number: its marks, which combinations are in the class, and the seconds that each holds.
 -- Each table of a sheet keeps the sums, over the combinations of each box, of one quantity of the record.
-use Prim.Native.Nat.{ℕ, _^_, _≤_, _<_}
+use Prim.Native.Nat.{ℕ}
 use mathlib.Core.Bool.{Bool, false, not}
 use mathlib.Core.List.{List}
-use lib.ListN.{length}
-use Rattle.boxes.specs.Boxes.{sumIn, allFree}
 use Rattle.boxes.specs.Sums.{only}
-use Rattle.tables.specs.Tables.{entry, afresh}
+use Rattle.tables.specs.Tables.{afresh}
 use Rattle.sheet.specs.declared.Sheet.{Sheet}
 
 pub record Record : Type 0 where
@@ -51,8 +49,3 @@ sheetFrom n m outs times = sheetWith m (afresh n m outs) (afresh n m times)
 
 abbrev pub sheetOf : ℕ → Record → Sheet
 sheetOf n r = sheetFrom n (r .marks) (quantity outside-counts r) (quantity held-seconds r)
-
--- a list with a number for each combination, which add up below 2^32
-pub record Addable (m : ℕ) (own : List ℕ) : Type 0 where
-  pub long : 2 ^ m ≤ length own
-  pub sum : sumIn m (allFree m) (entry own) < 2 ^ 32

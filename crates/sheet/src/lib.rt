@@ -5,9 +5,9 @@ ghost use Prim.Native.Nat.{_≤_};
 ghost use Rattle.ground.specs.Decides.{Decides};
 ghost use Rattle.tables.specs.Tables.{entry, afresh};
 ghost use Rattle.sheet.specs.Limits.{mostMarks, entries, mostHeld, mostAmount};
-ghost use Rattle.sheet.specs.Record.{sheetFrom, sheetOf, opened, Addable};
+ghost use Rattle.sheet.specs.Record.{sheetFrom, sheetOf, opened};
 ghost use Rattle.sheet.specs.Calls.{openOf, movedSheet, didOf, ClassSize};
-ghost use Rattle.sheet.specs.Parts.{Accepted};
+ghost use Rattle.sheet.specs.Parts.{Accepted, Addable};
 ghost use Rattle.sheet.specs.Sound.{ClassReady, Ready, classOf, sizeOf};
 ghost use Rattle.sheet.specs.declared.Call.the-variants.{Enter, Leave, Receive, Withdraw};
 

@@ -15,12 +15,12 @@ use Rattle.ground.proofs.Cases.{and-left, and-right}
 use Rattle.sheet.specs.Limits.{marksOk, mostHeld}
 use Rattle.sheet.specs.Record.{Record, opened}
 use Rattle.stored.specs.Sections.{sections, bytesBehind, standsIn, numberBehind, heldIn, mayStand, added}
-use Rattle.stored.specs.Fields.{numberIn, behind, due, sectionsDue, entriesDue, judge, good, Run, Reading}
+use Rattle.stored.specs.Fields.{Bytes, numberIn, behind, due, sectionsDue, entriesDue, judge, good, Run, Reading}
 use Rattle.stored.specs.Form.{bytes, listed, entryOf, section, form}
 use Rattle.stored.specs.declared.Section.{Section}
 use Rattle.stored.specs.declared.Section.the-variants.{Class, Held}
 use Rattle.stored.proofs.Runs.{took, passed, ended}
-use Rattle.stored.proofs.Numbers.{Bytes, bytes-drop, bytes-split, byte-split, number-below}
+use Rattle.stored.proofs.Numbers.{bytes-drop, bytes-split, byte-split, number-below}
 use Rattle.stored.proofs.Listed.{count, listed-ext, listed-skip, count-skip, listed-take, count-take}
 use Rattle.stored.proofs.Sections.{OnlyIn, class-not-held, only-same, only-then, added-only, stands-here, stands-other, entry-here, entry-other, held-more, held-most}
 

@@ -9,3 +9,4 @@ pub mod IsForm
 pub mod Back
 pub mod Trips
 pub mod Sample
+pub mod Agrees

@@ -4,14 +4,10 @@ use mathlib.Core.Path.{_≡_, refl, sym, ap, ap₂, _∙_}
 use mathlib.Core.List.{List, [], _∷_, _++_}
 use native.Mathlib.Nat.{pow-suc, one-le-pow}
 use native.Mathlib.Omega.{arith}
-use lib.ListN.{length, getD, take, drop, take-append-drop}
+use lib.ListN.{length, take, drop, take-append-drop}
 use lib.Seq.{take-at, drop-at, getD-drop}
-use Rattle.stored.specs.Fields.{numberIn}
+use Rattle.stored.specs.Fields.{Bytes, numberIn}
 use Rattle.stored.specs.Form.{bytes}
-
--- every element is a byte
-abbrev pub Bytes : List ℕ → Type 0
-Bytes l = (i : ℕ) → getD l i 0 < 256
 
 pub bytes-drop : (k : ℕ) (l : List ℕ) → Bytes l → Bytes (drop k l)
 bytes-drop k l h i = omega (arith, getD-drop k l i 0, h (k + i))

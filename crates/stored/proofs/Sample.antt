@@ -1,22 +1,16 @@
 -- 01's sample sheet, stored, and what it is read as.
 use Prim.Native.Nat.{ℕ, _^_, _≤_}
 use mathlib.Core.Path.{_≡_, refl, sym, subst}
-use mathlib.Core.Bool.{cond}
 use mathlib.Core.List.{List, [], _∷_}
 use native.Mathlib.Omega.{arith}
-use lib.Dec.{eqb, ltb}
 use Rattle.boxes.specs.Sums.{sum}
 use Rattle.sheet.specs.Limits.{mostMarks, entries, marksOk}
-use Rattle.sheet.specs.Record.{Record}
 use Rattle.stored.specs.declared.Read.{Read}
 use Rattle.stored.specs.Fields.{marks, good}
 use Rattle.stored.specs.Answers.{readOf, Reads}
 use Rattle.stored.specs.Form.{bytes, listed, form}
+use Rattle.stored.specs.Sample.{sample}
 use Rattle.stored.proofs.Trips.{form-same, told-agrees, form-same-sheet}
-
--- two marks; 01, 10 and 11 are in the class; 00 holds 4:00, 01 2:30 and 11 10:00
-abbrev sample : Record
-sample = record { marks = 2; class = ltb 0; times = λ c. cond (eqb c 0) 240 (cond (eqb c 1) 150 (cond (eqb c 3) 600 0)) }
 
 pub sample-stored : form sample
     ≡ 0x02 ∷ 0x03 ∷ 0x00 ∷ 0x01 ∷ 0x02 ∷ 0x03 ∷ 0x03 ∷ 0x00 ∷ 0x00 ∷ 0xF0 ∷ 0x00 ∷ 0x00 ∷ 0x00 ∷ 0x01 ∷ 0x96 ∷ 0x00 ∷ 0x00 ∷ 0x00 ∷ 0x03 ∷ 0x58 ∷ 0x02 ∷ 0x00 ∷ 0x00 ∷ []

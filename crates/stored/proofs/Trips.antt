@@ -24,7 +24,7 @@ use Rattle.sheet.proofs.Tests.{marks-most}
 use Rattle.sheet.proofs.Opening.{sheet-same}
 use Rattle.sheet.proofs.Kept.{class-sound, class-told, times-sound}
 use Rattle.stored.specs.declared.Read.{Read}
-use Rattle.stored.specs.Fields.{Outcome, good, refused, Reading}
+use Rattle.stored.specs.Fields.{Bytes, Outcome, good, refused, Reading}
 use Rattle.stored.specs.Sections.{bytesBehind, standsIn, numberBehind}
 use Rattle.stored.specs.Form.{bytes, entryOf, entriesOf, section, form}
 use Rattle.stored.specs.declared.Section.{Section}
@@ -33,7 +33,7 @@ use Rattle.stored.specs.Answers.{readOf, Reads, Writes, spoiled, short, 
 use Rattle.stored.proofs.UpTo.{upTo-low}
 use Rattle.stored.proofs.Runs.{one}
 use Rattle.stored.proofs.Refusals.{never-done}
-use Rattle.stored.proofs.Numbers.{Bytes, bytes-length}
+use Rattle.stored.proofs.Numbers.{bytes-length}
 use Rattle.stored.proofs.Listed.{listed-length}
 use Rattle.stored.proofs.IsForm.{Storable, section-same, is-form}
 use Rattle.stored.proofs.Back.{cut, reads-back}

@@ -4,12 +4,16 @@ use Prim.Native.Nat.{ℕ, zero, suc, _+_, _*_, _^_, _≤_, _<_}
 use mathlib.Core.Bool.{cond, _&&_}
 use mathlib.Core.Path.{_≡_}
 use mathlib.Core.List.{List, [], _∷_}
-use lib.ListN.{length, take, drop}
+use lib.ListN.{length, getD, take, drop}
 use lib.Dec.{leb, ltb}
 use Rattle.sheet.specs.Limits.{marksOk}
 use Rattle.sheet.specs.Record.{Record, opened}
 use Rattle.stored.specs.Sections.{sections, bytesBehind, heldIn, mayStand, added}
 use Rattle.stored.specs.declared.Section.{Section}
+
+-- each is a byte: what is read is any list of these
+abbrev pub Bytes : List ℕ → Type 0
+Bytes l = (i : ℕ) → getD l i 0 < 256
 
 -- the number in some bytes, low byte first
 unfoldable pub numberIn : List ℕ → ℕ

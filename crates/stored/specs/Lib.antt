@@ -3,3 +3,4 @@ pub mod Fields
 pub mod Form
 pub mod Answers
 pub mod Parts
+pub mod Sample

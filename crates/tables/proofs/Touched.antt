@@ -10,7 +10,8 @@ use Rattle.ground.proofs.Cases.{if, clash}
 use Rattle.boxes.proofs.Boxes.{contains-box}
 use Rattle.boxes.proofs.Choices.{through-lt, through-contains, through-free, freeMarks-lt, freeCount-through}
 use Rattle.tables.specs.declared.Shift.{Shift}
-use Rattle.tables.specs.Tables.{entry, fitsShifted, fitsMoved, touched}
+use Rattle.tables.specs.Tables.{entry, fitsShifted, touched}
+use Rattle.tables.specs.Parts.{fitsMoved}
 
 each : (a x : Bool) → a ≡ true → (not a || x) ≡ x
 each a x e = rw e

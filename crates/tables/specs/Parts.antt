@@ -1,13 +1,13 @@
 -- What the functions on tables ask of each other's arguments.
-use Prim.Native.Nat.{ℕ, _+_, _^_, _≤_, _<_}
+use Prim.Native.Nat.{ℕ, _+_, _*_, _^_, _≤_, _<_}
 use mathlib.Core.Path.{_≡_}
 use mathlib.Core.Bool.{Bool, true, false}
 use mathlib.Core.List.{List}
 use lib.ListN.{length}
-use Rattle.boxes.specs.Boxes.{contains}
+use Rattle.boxes.specs.Boxes.{contains, freeCount}
 use Rattle.tables.specs.declared.Shift.{Shift}
 use Rattle.tables.specs.declared.Shift.the-variants.{Stays, Up, Down}
-use Rattle.tables.specs.Tables.{entry}
+use Rattle.tables.specs.Tables.{entry, fitsShifted}
 
 -- a table over m marks, at most 8, and one of its combinations
 pub record Over (m c : ℕ) (t : List ℕ) : Type 0 where
@@ -30,3 +30,7 @@ Bears (Down d) x = d ≤ x
 -- and so has each entry that is shifted at c
 abbrev pub AllBear : ℕ → ℕ → Shift → List ℕ → Type 0
 AllBear m c s t = (b : ℕ) → contains m b c ≡ true → Bears s (entry t b)
+
+-- the entry of b, shifted, is 0 to `most` and `each` more for each combination of the box
+abbrev pub fitsMoved : ℕ → Shift → List ℕ → ℕ → ℕ → ℕ → Bool
+fitsMoved m s t most each b = fitsShifted s (most + each * 2 ^ freeCount m b) (entry t b)

@@ -6,7 +6,7 @@ use mathlib.Core.List.{List, [], _∷_}
 use lib.Dec.{leb}
 use lib.ListN.{length, getD}
 use Rattle.ground.specs.Every.{every}
-use Rattle.boxes.specs.Boxes.{contains, sumIn, single, freeCount}
+use Rattle.boxes.specs.Boxes.{contains, sumIn, single}
 use Rattle.tables.specs.declared.Shift.{Shift}
 use Rattle.tables.specs.declared.Shift.the-variants.{Stays, Up, Down}
 
@@ -62,7 +62,3 @@ abbrev pub fitsShifted : Shift → ℕ → ℕ → Bool
 fitsShifted Stays most x = leb x most
 fitsShifted (Up d) most x = leb (x + d) most
 fitsShifted (Down d) most x = leb d x && leb (x - d) most
-
--- the entry of b, shifted, is 0 to `most` and `each` more for each combination of the box
-abbrev pub fitsMoved : ℕ → Shift → List ℕ → ℕ → ℕ → ℕ → Bool
-fitsMoved m s t most each b = fitsShifted s (most + each * 2 ^ freeCount m b) (entry t b)

@@ -4,8 +4,8 @@ ghost use Prim.Native.Nat.{_+_, _*_, _-_, _^_, _<_, _≤_};
 ghost use lib.ListN.{length};
 ghost use Rattle.ground.specs.Decides.{Decides};
 ghost use Rattle.boxes.specs.Boxes.{sumIn, allFree};
-ghost use Rattle.tables.specs.Tables.{entry, own, afresh, shifted, moved, fitsShifted, fitsMoved, touched, Sums};
-ghost use Rattle.tables.specs.Parts.{Over, Bears, AllBear, staysOf};
+ghost use Rattle.tables.specs.Tables.{entry, own, afresh, shifted, moved, fitsShifted, touched, Sums};
+ghost use Rattle.tables.specs.Parts.{Over, Bears, AllBear, staysOf, fitsMoved};
 ghost use Rattle.tables.specs.Thirds.{from, Added, sumOf, FewEach, Made};
 use boxes;
 

@@ -3,4 +3,3 @@ pub mod Behinds
 pub mod Fronts
 pub mod Settled
 pub mod Words
-pub mod Known

@@ -4,20 +4,7 @@ use mathlib.Core.Path.{_≡_, refl, ap, _∙_}
 use mathlib.Core.List.{List, [], _∷_, _++_}
 use native.Mathlib.Omega.{arith}
 use Rattle.ground.specs.Texts.{ascii}
-use Rattle.times.specs.Texts.{Numeral, After, minutes, Readable}
-
--- minutes 0 to 599 without a leading zero, and seconds 00 to 59
-pub record Spelled (t : List ℕ) (v : ℕ) : Type 0 where
-  pub first : List ℕ
-  pub m : ℕ
-  pub numeral : Numeral first m
-  pub small : m ≤ 599
-  pub tens : ℕ
-  pub ones : ℕ
-  pub tens-small : tens ≤ 5
-  pub ones-small : ones ≤ 9
-  pub text : t ≡ first ++ ascii ":" ++ (48 + tens) ∷ (48 + ones) ∷ []
-  pub total : v ≡ m * 60 + (tens * 10 + ones)
+use Rattle.times.specs.Texts.{After, minutes, Readable, Spelled}
 
 nothing : {n x v : ℕ} {z : List ℕ} → After n x z v → (z ≡ []) × (v ≡ n * 60 + x)
 nothing (minutes e) = (refl, e)

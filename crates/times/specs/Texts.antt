@@ -48,3 +48,16 @@ pub record Readable (t : List ℕ) (v : ℕ) : Type 0 where
   pub rest : List ℕ
   pub text : t ≡ first ++ ascii ":" ++ rest
   pub behind : Behind n rest v
+
+-- The same in 01's words (`spelled`, `read-so` in proofs/Words): minutes 0 to 599 without a leading zero, and seconds 00 to 59
+pub record Spelled (t : List ℕ) (v : ℕ) : Type 0 where
+  pub first : List ℕ
+  pub m : ℕ
+  pub numeral : Numeral first m
+  pub small : m ≤ 599
+  pub tens : ℕ
+  pub ones : ℕ
+  pub tens-small : tens ≤ 5
+  pub ones-small : ones ≤ 9
+  pub text : t ≡ first ++ ascii ":" ++ (48 + tens) ∷ (48 + ones) ∷ []
+  pub total : v ≡ m * 60 + (tens * 10 + ones)

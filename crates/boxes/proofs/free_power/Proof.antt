@@ -6,7 +6,7 @@ use native.Mathlib.Nat.{pow-le-pow-right}
 use borrow.Author.Needs.{needs}
 use Rattle.boxes.proofs.Masks.{Unfree, unfree-start, unfree-more, unfree-end}
 use Rattle.boxes.proofs.Numbers.{power-next}
-use Rattle.boxes.specs.Boxes.{FreePower, none, at}
+use Rattle.boxes.specs.Parts.{FreePower, none, at}
 use Rattle.boxes.proofs.free_power.Statement.{statement}
 use Rattle.boxes.proofs.free_power.Tie as tie
 

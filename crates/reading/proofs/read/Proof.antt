@@ -9,9 +9,8 @@ use borrow.Author.Needs.{needs}
 use Rattle.sheet.proofs.Tests.{marks-most}
 use Rattle.sheet.specs.Limits.{mostMarks, marksOk}
 use Rattle.sheet.specs.Record.{Record, opened}
-use Rattle.stored.proofs.Numbers.{Bytes}
 use Rattle.stored.specs.Sections.{sections}
-use Rattle.stored.specs.Fields.{due, marks, count, sectionsDue, refused, good as good-outcome, Reading}
+use Rattle.stored.specs.Fields.{Bytes, due, marks, count, sectionsDue, refused, good as good-outcome, Reading}
 use Rattle.stored.specs.declared.Section.{Section}
 use Rattle.stored.specs.declared.Section.the-variants.{Class, Held}
 use Rattle.reading.specs.Parts.{Leads, Got}

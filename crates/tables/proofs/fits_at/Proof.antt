@@ -9,7 +9,7 @@ use borrow.Author.Needs.{needs}
 use borrow.Author.Count.{below-more}
 use borrow.Author.Tests.{not-true, not-false}
 use Rattle.boxes.specs.Boxes.{through}
-use Rattle.tables.specs.Tables.{fitsMoved}
+use Rattle.tables.specs.Parts.{fitsMoved}
 use Rattle.tables.proofs.Touched.{touched-all, touched-no, turn-judged}
 use Rattle.tables.proofs.fits_at.Statement.{statement}
 use Rattle.tables.proofs.fits_at.Tie as tie

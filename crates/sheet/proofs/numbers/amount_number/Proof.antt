@@ -6,7 +6,8 @@ use native.Mathlib.Omega.{arith}
 use borrow.Author.Tests.{not-true, not-false}
 use borrow.Author.Needs.{needs}
 use Rattle.tables.specs.declared.Shift.{Shift}
-use Rattle.tables.specs.Tables.{fitsMoved, touched}
+use Rattle.tables.specs.Tables.{touched}
+use Rattle.tables.specs.Parts.{fitsMoved}
 use Rattle.tables.proofs.Touched.{touched-ext}
 use Rattle.sheet.specs.Limits.{marksOk, amountOk, mostMarks, entries}
 use Rattle.sheet.specs.Calls.{fitsAmount}

@@ -11,7 +11,8 @@ use Rattle.tables.specs.declared.Shift.{Shift}
 use Rattle.tables.proofs.Touched.{touched-ext}
 use Rattle.sheet.specs.Calls.{standing, fitsClass}
 use Rattle.sheet.specs.Limits.{marksOk, mostMarks}
-use Rattle.tables.specs.Tables.{entry, own, fitsMoved, touched}
+use Rattle.tables.specs.Tables.{entry, own, touched}
+use Rattle.tables.specs.Parts.{fitsMoved}
 use Rattle.sheet.proofs.numbers.change_number.Statement.{statement}
 use Rattle.sheet.proofs.numbers.change_number.Tie as tie
 

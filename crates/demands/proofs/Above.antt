@@ -1,0 +1,18 @@
+-- Call by call.
+use Rattle.sheet.proofs.Above.{did-alike, did-above}
+use Rattle.sheet.proofs.Agrees.{size-alike}
+use Rattle.listing.proofs.Agrees.{list-alike, total-alike}
+use Rattle.stored.proofs.Agrees.{writes-alike}
+use Rattle.demands.specs.Above.{Above}
+
+pub above : Above
+above = record {
+  not-read = λ s u ls lu a. record {
+    did = did-alike s u a ls lu;
+    class-size = size-alike a;
+    list = list-alike a;
+    total = total-alike a;
+    write = writes-alike a;
+  };
+  not-changed = did-above;
+}

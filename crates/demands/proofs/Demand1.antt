@@ -1,0 +1,186 @@
+-- Call by call: an answer of 0 has nothing to show, and any other is one of the refusals of its contract.
+use Prim.Native.Nat.{ℕ, _+_, _^_, _≤_}
+use mathlib.Core.Path.{_≡_, refl, sym, _∙_, ap, subst}
+use mathlib.Core.Bool.{Bool, true, false, not, cond}
+use mathlib.Core.List.{List}
+use mathlib.Core.Logic.{_⊎_, ⊎-elim}
+use native.Mathlib.Omega.{arith}
+use lib.Dec.{eqb, leb, ltb}
+use borrow.Author.Tests.{ne-eqb}
+use Rattle.ground.proofs.Cases.{if}
+use Rattle.tables.specs.Tables.{own, touched}
+use Rattle.sheet.specs.Limits.{mostMarks, entries, marksOk, amountOk}
+use Rattle.sheet.specs.Record.{Table, sheetOf, opened}
+use Rattle.sheet.specs.Calls.{openOf, standing, fitsClass, fitsAmount, changeNo, amountNo, numberOn, didOf, moveOf, movedSheet, ClassSize}
+use Rattle.sheet.specs.declared.Call.{Call}
+use Rattle.sheet.specs.declared.Call.the-variants.{Enter, Leave, Receive, Withdraw}
+use Rattle.sheet.specs.declared.Sheet.{Sheet}
+use Rattle.sheet.specs.declared.Answer.{Answer}
+use Rattle.sheet.specs.declared.Value.{Value}
+use Rattle.sheet.proofs.Answers.{open-done, open-refused}
+use Rattle.listing.specs.Listing.{Searched, Listed, Totalled}
+use Rattle.stored.specs.Fields.{Outcome, good, refused, Reading as ReadsOutcome}
+use Rattle.stored.specs.Answers.{readOf, Reads, Writes}
+use Rattle.stored.specs.declared.Read.{Read}
+use Rattle.stored.proofs.Refusals.{refusals}
+use Rattle.times.specs.Texts.{Readable}
+use Rattle.times.specs.Answers.{readingOf, Answered}
+use Rattle.times.specs.declared.Time.{Time}
+use Rattle.times.specs.declared.Reading.{Reading}
+use Rattle.times.specs.declared.Time.the-variants.{Value as Read-value, Fault}
+use Rattle.vault.specs.Entries.{replied, HoldsNone, Put, Changes, Tells, Lends, Compared, KeptAt, same}
+use Rattle.vault.specs.declared.Reply.{Reply}
+use Rattle.demands.specs.Calls.{Lent, nothing, sheet, bytes, ofValue, ofRead, ofReading, Made}
+use Rattle.demands.specs.Demand1.{Refuses, Demand1}
+
+-- the ways an answer can be: done; refused by a number below 10 without a place; refused by 10
+done : {p v : ℕ} {a b : Lent} → p ≡ 0 → Refuses (record { answer = 0; place = p; value = v }) b a
+done e = record { of-table = omega arith; leaves = λ n. absurd (n refl); no-value = λ n. absurd (n refl); no-place = λ n. e }
+
+left : {n : ℕ} {l : Lent} → n ≤ 10 → Refuses (replied n 0) l l
+left h = record { of-table = h; leaves = λ n. refl; no-value = λ n. refl; no-place = λ n. refl }
+
+placed : {p : ℕ} {l : Lent} → Refuses (record { answer = 10; place = p; value = 0 }) l l
+placed = record { of-table = omega arith; leaves = λ n. refl; no-value = λ n. refl; no-place = λ n. absurd (n refl) }
+
+-- opening and changing
+
+cond-le : (t : Bool) (x y : ℕ) → x ≤ 10 → y ≤ 10 → cond t x y ≤ 10
+cond-le true x y h k = h
+cond-le false x y h k = k
+
+change-le : (most : ℕ) (into : Bool) (m : ℕ) (t : List ℕ) (c : ℕ) → changeNo most into m t c ≤ 10
+unfolding changeNo
+change-le most into m t c =
+    cond-le (not (marksOk most m)) 7 _ (omega arith)
+    (cond-le (leb (2 ^ m) c) 2 _ (omega arith)
+    (cond-le (ltb 1 (own m t c)) 7 _ (omega arith)
+    (cond-le (eqb (own m t c) (standing into)) 3 _ (omega arith)
+    (cond-le (not (touched m c (fitsClass into m t))) 7 0 (omega arith) (omega arith)))))
+
+amount-le : (most : ℕ) (more : Bool) (m : ℕ) (t : List ℕ) (c d : ℕ) → amountNo most more m t c d ≤ 10
+unfolding amountNo
+amount-le most more m t c d =
+    cond-le (not (marksOk most m)) 7 _ (omega arith)
+    (cond-le (leb (2 ^ m) c) 2 _ (omega arith)
+    (cond-le (not (amountOk d)) 4 _ (omega arith)
+    (cond-le (not (touched m c (fitsAmount more d t))) _ 0 (cond-le more 8 9 (omega arith) (omega arith)) (omega arith))))
+
+number-le : (s : Sheet) (k : Call) → numberOn mostMarks s k ≤ 10
+number-le s (Enter c) = change-le mostMarks true (s .marks) (s .outside) c
+number-le s (Leave c) = change-le mostMarks false (s .marks) (s .outside) c
+number-le s (Receive c d) = amount-le mostMarks true (s .marks) (s .held) c d
+number-le s (Withdraw c d) = amount-le mostMarks false (s .marks) (s .held) c d
+
+did-left : (s : Sheet) (k : Call) → (didOf mostMarks s k .number ≡ 0 → ⊥) → didOf mostMarks s k .sheet ≡ s
+did-left s k n = ap (λ (t : Bool). cond t (movedSheet (moveOf k) s) s) (ne-eqb (numberOn mostMarks s k) 0 n)
+
+did-refuses : (s : Sheet) (k : Call) → Refuses (replied (didOf mostMarks s k .number) 0) (sheet s) (sheet (didOf mostMarks s k .sheet))
+did-refuses s k = record { of-table = number-le s k; leaves = λ n. ap sheet (did-left s k n); no-value = λ n. refl; no-place = λ n. refl }
+
+open-as : (P : Answer → Type 0) (m : ℕ) → P (record { number = 0; sheet = sheetOf entries (opened m) }) → P (record { number = 1; sheet = sheetOf entries (opened 1) })
+    → P (openOf mostMarks entries m)
+open-as P m d r = if (marksOk mostMarks m) (λ e. subst P (open-done mostMarks entries m e) d) (λ e. subst P (open-refused mostMarks entries m e) r)
+
+-- reading off a sheet, writing it
+
+size-refuses : {s : Sheet} {v : Value} {l : Lent} → ClassSize mostMarks s v → Refuses (ofValue v) l l
+size-refuses (ClassSize.spoiled n) = left (omega arith)
+size-refuses (ClassSize.told w) = done refl
+
+total-refuses : {s : Sheet} {v : Value} {l : Lent} → Totalled mostMarks s v → Refuses (ofValue v) l l
+total-refuses (Totalled.spoiled n) = left (omega arith)
+total-refuses (Totalled.told w) = done refl
+
+list-refuses : {s : Sheet} {area later : List ℕ} {v : Value} → Listed mostMarks s area v later → Refuses (ofValue v) (bytes area) (bytes later)
+list-refuses (Listed.spoiled n) = left (omega arith)
+list-refuses (Listed.short w l) = left (omega arith)
+list-refuses (Listed.searched w l (Searched.none n)) = left (omega arith)
+list-refuses (Listed.searched w l (Searched.given f)) = done refl
+
+write-refuses : {s : Sheet} {out later : List ℕ} {v : Value} → Writes mostMarks s out v later → Refuses (ofValue v) (bytes out) (bytes later)
+write-refuses (Writes.spoiled n) = left (omega arith)
+write-refuses (Writes.short w l) = left (omega arith)
+write-refuses (Writes.written w l) = done refl
+
+-- reading
+
+outcome-refuses : {t : List ℕ} {l : Lent} (o : Outcome) → ReadsOutcome mostMarks t o → Refuses (ofRead (readOf entries o)) l l
+outcome-refuses (good r) y = done refl
+outcome-refuses {l = l} (refused k p) y =
+    ⊎-elim
+    (λ (w : (k ≡ 1) × (p ≡ 0)). subst (λ (q : ℕ). Refuses (record { answer = k; place = q; value = 0 }) l l) (sym (w .1)) (left (omega (arith, w .0))))
+    (λ (w : k ≡ 10). subst (λ (x : ℕ). Refuses (record { answer = x; place = p; value = 0 }) l l) (sym w) placed)
+    (refusals y)
+
+read-refuses : {t : List ℕ} {a : Read} {l : Lent} → Reads mostMarks entries t a → Refuses (ofRead a) l l
+read-refuses {l = l} x = subst (λ (y : Read). Refuses (ofRead y) l l) (sym (x .is)) (outcome-refuses (x .outcome) (x .run))
+
+time-refuses : (x : Time) {l : Lent} → Refuses (ofReading (readingOf x)) l l
+time-refuses (Read-value v) = done refl
+time-refuses (Fault p) = placed
+
+answer-refuses : {t : List ℕ} {r : Reading} {l : Lent} → Answered t r → Refuses (ofReading r) l l
+answer-refuses {l = l} a = subst (λ (x : Reading). Refuses (ofReading x) l l) (sym (a .is)) (time-refuses (a .time))
+
+-- the entries for C
+
+unread-refuses : {t : List ℕ} {r : Reply} {l : Lent} → HoldsNone t r → Refuses r l l
+unread-refuses {l = l} h = subst (λ (x : Reply). Refuses x l l) (sym (h .reply)) (read-refuses (h .reads))
+
+put-refuses : (a : Answer) {out later : List ℕ} {r : Reply} → a .number ≤ 10 → Put a out r later → Refuses r (bytes out) (bytes later)
+put-refuses a h (Put.refused n) = left h
+put-refuses a h (Put.written z w) = write-refuses w
+
+change-refuses : (call : Sheet → Answer) → ((s : Sheet) → call s .number ≤ 10) → {t out later : List ℕ} {r : Reply} → Changes call t out r later
+    → Refuses r (bytes out) (bytes later)
+change-refuses call h (Changes.unread u) = unread-refuses u
+change-refuses call h (Changes.called {s = s} k p) = put-refuses (call s) (h s) p
+
+tell-refuses : (call : Sheet → Value → Type 0) → ((s : Sheet) (v : Value) → call s v → Refuses (ofValue v) nothing nothing) → {t : List ℕ} {r : Reply}
+    → Tells call t r → Refuses r nothing nothing
+tell-refuses call h (Tells.unread u) = unread-refuses u
+tell-refuses call h (Tells.told k w) = h _ _ w
+
+lend-refuses : {t area later : List ℕ} {r : Reply} → Lends (Listed mostMarks) t area r later → Refuses r (bytes area) (bytes later)
+lend-refuses (Lends.unread u) = unread-refuses u
+lend-refuses (Lends.lent k w) = list-refuses w
+
+kept-refuses : (k : Table) (b : ℕ) (s : Sheet) (v : Value) → KeptAt k b s v → Refuses (ofValue v) nothing nothing
+kept-refuses k b s v e = subst (λ (x : Value). Refuses (ofValue x) nothing nothing) (sym e) (done refl)
+
+compared-refuses : {first second : List ℕ} {r : Reply} → Compared first second r → Refuses r nothing nothing
+compared-refuses (Compared.keeps n) = done refl
+compared-refuses (Compared.changes b) = done refl
+
+of-refusal : (o : Outcome) → (readOf entries o .number ≡ 0 → ⊥) → readOf entries o .sheet ≡ sheetOf entries (opened 1)
+of-refusal (good r) n = absurd (n refl)
+of-refusal (refused k p) n = refl
+
+-- EVERY CALL
+every : {r : Reply} {before after : Lent} → Made r before after → Refuses r before after
+every (Made.opens m) = open-as (λ (a : Answer). Refuses (replied (a .number) 0) nothing nothing) m (left (omega arith)) (left (omega arith))
+every (Made.did s k) = did-refuses s k
+every (Made.class-size w) = size-refuses w
+every (Made.list w) = list-refuses w
+every (Made.total w) = total-refuses w
+every (Made.read x) = read-refuses x
+every (Made.write w) = write-refuses w
+every (Made.read-time {x = x} r) = time-refuses x
+every (Made.answer-time a) = answer-refuses a
+every (Made.vault-open m p) = put-refuses (openOf mostMarks entries m) (open-as (λ (a : Answer). a .number ≤ 10) m (omega arith) (omega arith)) p
+every (Made.vault-change k c) = change-refuses (λ s. didOf mostMarks s k) (λ s. number-le s k) c
+every (Made.vault-copy c) = change-refuses same (λ s. omega arith) c
+every (Made.vault-list w) = lend-refuses w
+every (Made.vault-class-size w) = tell-refuses (ClassSize mostMarks) (λ s v. size-refuses) w
+every (Made.vault-total w) = tell-refuses (Totalled mostMarks) (λ s v. total-refuses) w
+every (Made.vault-kept k b w) = tell-refuses (KeptAt k b) (kept-refuses k b) w
+every (Made.vault-before w) = compared-refuses w
+every (Made.vault-read-time a) = answer-refuses a
+
+pub demand-1 : Demand1
+demand-1 = record {
+  every-call = every;
+  opening = λ m. open-as (λ (a : Answer). (a .number ≡ 0 → ⊥) → a .sheet ≡ sheetOf entries (opened 1)) m (λ n. absurd (n refl)) (λ n. refl);
+  reading = λ {t} {a} x n. ap (λ (y : Read). y .sheet) (x .is) ∙ of-refusal (x .outcome) (λ e. n (ap (λ (y : Read). y .number) (x .is) ∙ e));
+}

@@ -1,0 +1,83 @@
+-- What the contract of `list` says of the list it gives, and what follows of every first shortest list.
+use Prim.Native.Nat.{ℕ, suc, _-_, _^_, _≤_}
+use mathlib.Core.Path.{_≡_, refl, sym, _∙_, ap, subst, transport}
+use mathlib.Core.Bool.{Bool, true, _&&_}
+use mathlib.Core.List.{List}
+use native.Mathlib.Omega.{arith}
+use lib.Dec.{eqb, leb}
+use lib.ListN.{length}
+use borrow.Author.Tests.{leb-true, le-ltb}
+use Rattle.ground.proofs.Cases.{clash, below-or, and-left}
+use Rattle.boxes.specs.Sums.{sumOver}
+use Rattle.tables.specs.Tables.{entry, own}
+use Rattle.lists.specs.Lists.{Small, FirstShortest}
+use Rattle.lists.proofs.Class.{rising-same}
+use Rattle.lists.proofs.Exist.{exists, at-most-half}
+use Rattle.lists.proofs.First.{unique}
+use Rattle.lists.proofs.Pottosin.{fits-independent, first-smallest}
+use Rattle.sheet.specs.Limits.{mostMarks, marksOk}
+use Rattle.sheet.specs.Sound.{ClassReady, recordOf}
+use Rattle.sheet.specs.declared.Sheet.{Sheet}
+use Rattle.sheet.specs.declared.Value.{Value}
+use Rattle.listing.specs.Listing.{totalOf, Searched, Listed, Totalled}
+use Rattle.listing.proofs.Lines.{kept-total}
+use Rattle.vault.specs.Entries.{Lends}
+use Rattle.vault.specs.declared.Reply.{Reply}
+use Rattle.demands.specs.Demand2.{Lines, Printed, PrintedIn, Demand2}
+
+some-marks : (most m : ℕ) → marksOk most m ≡ true → 1 ≤ m
+unfolding marksOk
+some-marks most m e = leb-true 1 m (and-left (leb 1 m) _ e)
+
+lines : (m : ℕ) (class : ℕ → Bool) (l : List ℕ) → 1 ≤ m → Small m class → FirstShortest m class class l → Lines m class l
+lines m class l some small f =
+    let e : m ≡ suc (m - 1) = omega arith in
+    record {
+      right = f;
+      rising = transport (rising-same m class l (fits-independent m class (f .fits))) (f .rising);
+      one = λ k g. unique g f;
+      form = first-smallest m class l small f;
+      few = at-most-half (m - 1) (subst (λ (n : ℕ). Small n class) e small) (subst (λ (n : ℕ). FirstShortest n class class l) e f);
+    }
+
+module _ (s : Sheet) where
+  -- no class that counts tell has a number that is no combination
+  small : Small (s .marks) (recordOf s .class)
+  small c e =
+      below-or c (2 ^ s .marks) (λ l. l)
+      (λ l. clash e (ap (λ (t : Bool). t && eqb (own (s .marks) (s .outside) c) 0) (le-ltb c (2 ^ s .marks) l)))
+
+  given : {area later : List ℕ} {v : Value} → Listed mostMarks s area v later → ClassReady mostMarks s → 2 ^ s .marks ≤ length area → v .number ≡ 0
+  given (Listed.spoiled n) r l = absurd (n r)
+  given (Listed.short w h) r l = absurd (omega arith)
+  given (Listed.searched w h (Searched.none n)) r l =
+      let x = exists (s .marks) (recordOf s .class) (recordOf s .class) small (λ c e. e) in absurd (n (x .0) (x .1))
+  given (Listed.searched w h (Searched.given f)) r l = refl
+
+  total : {v : Value} → Totalled mostMarks s v → v .number ≡ 0 → v .value ≡ totalOf (recordOf s)
+  total (Totalled.spoiled n) e = absurd (omega arith)
+  total (Totalled.told w) e = refl
+
+  seconds : {l : List ℕ} {t : Value} → FirstShortest (s .marks) (recordOf s .class) (recordOf s .class) l → Totalled mostMarks s t → t .number ≡ 0
+      → sumOver l (entry (s .held)) ≡ t .value
+  seconds f (Totalled.spoiled n) e = absurd (omega arith)
+  seconds {l} f (Totalled.told w) e = kept-total s l (w .times) (f .fits)
+
+  printed : {area later : List ℕ} {v : Value} → Listed mostMarks s area v later → v .number ≡ 0 → Printed s area v later
+  printed (Listed.spoiled n) e = absurd (omega arith)
+  printed (Listed.short w h) e = absurd (omega arith)
+  printed (Listed.searched w h (Searched.none n)) e = absurd (omega arith)
+  printed (Listed.searched w h (Searched.given {l} f)) e = record {
+    lines = l;
+    of-class = lines (s .marks) (recordOf s .class) l (some-marks mostMarks (s .marks) (w .marks)) small f;
+    size = refl;
+    stands = refl;
+    seconds = λ t. seconds f t;
+  }
+
+entry-printed : {t area later : List ℕ} {r : Reply} → Lends (Listed mostMarks) t area r later → r .answer ≡ 0 → PrintedIn t area r later
+entry-printed (Lends.unread u) z = absurd (u .bad (sym (ap (λ (x : Reply). x .answer) (u .reply)) ∙ z))
+entry-printed (Lends.lent {s = s} h w) z = record { sheet = s; held-in = h; printed = printed s w z }
+
+pub demand-2 : Demand2
+demand-2 = record { given = λ {s} w. given s w; printed = λ {s} w. printed s w; entry = entry-printed; total = λ {s} w. total s w }

@@ -1,0 +1,61 @@
+-- The public calls, a closed list: one constructor each. A call is made with any numbers, any text, any bytes and any sheet, and returns what its own
+-- contract says.
+use Prim.Native.Nat.{ℕ}
+use mathlib.Core.List.{List}
+use Rattle.sheet.specs.Limits.{mostMarks, entries}
+use Rattle.sheet.specs.Record.{Table}
+use Rattle.sheet.specs.Calls.{openOf, didOf, ClassSize}
+use Rattle.sheet.specs.declared.Call.{Call}
+use Rattle.sheet.specs.declared.Sheet.{Sheet}
+use Rattle.sheet.specs.declared.Value.{Value}
+use Rattle.listing.specs.Listing.{Listed, Totalled}
+use Rattle.stored.specs.Answers.{Reads, Writes}
+use Rattle.stored.specs.declared.Read.{Read}
+use Rattle.times.specs.Texts.{Readable}
+use Rattle.times.specs.Places.{ReadsAs}
+use Rattle.times.specs.Answers.{readingOf, Answered}
+use Rattle.times.specs.declared.Time.{Time}
+use Rattle.times.specs.declared.Reading.{Reading}
+use Rattle.vault.specs.Entries.{replied, Put, Changes, Tells, Lends, Compared, KeptAt, same, timeIn}
+use Rattle.vault.specs.declared.Reply.{Reply}
+
+-- What a caller lends to be changed and has back: nothing, a sheet, or bytes. What is lent to be read alone cannot change.
+pub data Lent : Type 0 where
+  nothing : Lent
+  sheet : Sheet → Lent
+  bytes : List ℕ → Lent
+
+-- What a call answers is told as a reply: the number, the place and the value, each 0 where the call has none of its own.
+
+abbrev pub ofValue : Value → Reply
+ofValue v = replied (v .number) (v .value)
+
+abbrev pub ofRead : Read → Reply
+ofRead a = record { answer = a .number; place = a .place; value = 0 }
+
+abbrev pub ofReading : Reading → Reply
+ofReading r = record { answer = r .answer; place = r .place; value = r .value }
+
+-- A public call was made: what it answered, and what was lent, before and after.
+-- (`lists::before`, which hands back one of two lent lists, answers no number; its entry for C answers 0.)
+pub data Made : Reply → (before after : Lent) → Type 0 where
+  -- from Rattle
+  opens : (m : ℕ) → Made (replied (openOf mostMarks entries m .number) 0) nothing nothing
+  did : (s : Sheet) (k : Call) → Made (replied (didOf mostMarks s k .number) 0) (sheet s) (sheet (didOf mostMarks s k .sheet))
+  class-size : {s : Sheet} {v : Value} → ClassSize mostMarks s v → Made (ofValue v) nothing nothing
+  list : {s : Sheet} {area later : List ℕ} {v : Value} → Listed mostMarks s area v later → Made (ofValue v) (bytes area) (bytes later)
+  total : {s : Sheet} {v : Value} → Totalled mostMarks s v → Made (ofValue v) nothing nothing
+  read : {t : List ℕ} {a : Read} → Reads mostMarks entries t a → Made (ofRead a) nothing nothing
+  write : {s : Sheet} {out later : List ℕ} {v : Value} → Writes mostMarks s out v later → Made (ofValue v) (bytes out) (bytes later)
+  read-time : {t : List ℕ} {x : Time} → ReadsAs Readable t x → Made (ofReading (readingOf x)) nothing nothing
+  answer-time : {t : List ℕ} {r : Reading} → Answered t r → Made (ofReading r) nothing nothing
+  -- from C; a change is that of vault_enter, vault_leave, vault_receive or vault_withdraw, a kept number that of vault_outside or vault_held
+  vault-open : (m : ℕ) {out later : List ℕ} {r : Reply} → Put (openOf mostMarks entries m) out r later → Made r (bytes out) (bytes later)
+  vault-change : (k : Call) {t out later : List ℕ} {r : Reply} → Changes (λ s. didOf mostMarks s k) t out r later → Made r (bytes out) (bytes later)
+  vault-copy : {t out later : List ℕ} {r : Reply} → Changes same t out r later → Made r (bytes out) (bytes later)
+  vault-list : {t area later : List ℕ} {r : Reply} → Lends (Listed mostMarks) t area r later → Made r (bytes area) (bytes later)
+  vault-class-size : {t : List ℕ} {r : Reply} → Tells (ClassSize mostMarks) t r → Made r nothing nothing
+  vault-total : {t : List ℕ} {r : Reply} → Tells (Totalled mostMarks) t r → Made r nothing nothing
+  vault-kept : (k : Table) (b : ℕ) {t : List ℕ} {r : Reply} → Tells (KeptAt k b) t r → Made r nothing nothing
+  vault-before : {first second : List ℕ} {r : Reply} → Compared first second r → Made r nothing nothing
+  vault-read-time : {t : List ℕ} {r : Reply} → Answered t (timeIn r) → Made r nothing nothing

@@ -1,0 +1,54 @@
+-- DEMAND 2. The printed lines are a shortest orthogonal disjunctive normal form of the class, and among the shortest the first in our order; their
+-- seconds add up to the class total.
+use Prim.Native.Nat.{ℕ, _-_, _^_, _≤_}
+use mathlib.Core.Path.{_≡_}
+use mathlib.Core.Bool.{Bool}
+use mathlib.Core.List.{List, _++_}
+use lib.ListN.{length, drop}
+use Rattle.boxes.specs.Sums.{sumOver}
+use Rattle.tables.specs.Tables.{entry}
+use Rattle.lists.specs.Lists.{LowRising, FirstShortest}
+use Rattle.lists.specs.Pottosin.{SmallestMaximal}
+use Rattle.sheet.specs.Limits.{mostMarks}
+use Rattle.sheet.specs.Sound.{ClassReady, recordOf}
+use Rattle.sheet.specs.declared.Sheet.{Sheet}
+use Rattle.sheet.specs.declared.Value.{Value}
+use Rattle.listing.specs.Listing.{totalOf, Listed, Totalled}
+use Rattle.vault.specs.Entries.{Holds, Lends}
+use Rattle.vault.specs.declared.Reply.{Reply}
+
+-- the lines of a class of m marks
+pub record Lines (m : ℕ) (class : ℕ → Bool) (l : List ℕ) : Type 0 where
+  -- no two share a combination, together they are exactly the class, no such list is shorter, and it is the first of the shortest
+  pub right : FirstShortest m class class l
+  -- in rising order of each line's lowest combination
+  pub rising : LowRising m l
+  -- it is one list
+  pub one : (k : List ℕ) → FirstShortest m class class k → k ≡ l
+  -- a smallest maximal independent set in the graph of all boxes inside the class: Pottosin's form
+  pub form : SmallestMaximal m class l
+  pub few : length l ≤ 2 ^ (m - 1)
+
+-- what `list` gave of the sheet s, in the area lent for it
+pub record Printed (s : Sheet) (area : List ℕ) (v : Value) (later : List ℕ) : Type 0 where
+  pub lines : List ℕ
+  pub of-class : Lines (s .marks) (recordOf s .class) lines
+  pub size : v .value ≡ length lines
+  pub stands : later ≡ lines ++ drop (length lines) area
+  -- what the sheet keeps of the lines adds up to what `total` answers
+  pub seconds : {t : Value} → Totalled mostMarks s t → t .number ≡ 0 → sumOver lines (entry (s .held)) ≡ t .value
+
+pub record PrintedIn (t area : List ℕ) (r : Reply) (later : List ℕ) : Type 0 where
+  pub sheet : Sheet
+  pub held-in : Holds t sheet
+  pub printed : Printed sheet area (record { number = r .answer; value = r .value }) later
+
+pub record Demand2 : Type 0 where
+  -- a sound class gets its list wherever there is room: 6 never comes
+  pub given : {s : Sheet} {area later : List ℕ} {v : Value} → Listed mostMarks s area v later
+      → ClassReady mostMarks s → 2 ^ s .marks ≤ length area → v .number ≡ 0
+  pub printed : {s : Sheet} {area later : List ℕ} {v : Value} → Listed mostMarks s area v later → v .number ≡ 0 → Printed s area v later
+  -- and through C, of the sheet that the lent bytes hold
+  pub entry : {t area later : List ℕ} {r : Reply} → Lends (Listed mostMarks) t area r later → r .answer ≡ 0 → PrintedIn t area r later
+  -- the class total is the seconds held in the class
+  pub total : {s : Sheet} {v : Value} → Totalled mostMarks s v → v .number ≡ 0 → v .value ≡ totalOf (recordOf s)

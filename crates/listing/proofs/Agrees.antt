@@ -1,0 +1,23 @@
+-- Entries at 3^m and above are not read: two sheets that agree below get the same list and the same total.
+use Prim.Native.Nat.{ℕ, _^_, _<_, _≤_}
+use mathlib.Core.Path.{sym, subst}
+use mathlib.Core.List.{List}
+use lib.ListN.{length}
+use Rattle.sheet.specs.Record.{Record}
+use Rattle.sheet.specs.Promises.{Agree}
+use Rattle.sheet.specs.declared.Sheet.{Sheet}
+use Rattle.sheet.specs.declared.Value.{Value}
+use Rattle.sheet.proofs.Agrees.{agree-back, record-same, class-ready-same, ready-same}
+use Rattle.listing.specs.Listing.{totalOf, Searched, Listed, Totalled}
+
+pub list-alike : {most : ℕ} {s u : Sheet} {area later : List ℕ} {v : Value} → Agree s u → Listed most s area v later → Listed most u area v later
+list-alike a (Listed.spoiled n) = Listed.spoiled (λ r. n (class-ready-same (agree-back a) r))
+list-alike {area = area} a (Listed.short r l) = Listed.short (class-ready-same a r) (subst (λ (m : ℕ). length area < 2 ^ m) (a .marks) l)
+list-alike {area = area} {later} {v} a (Listed.searched r l w) =
+    Listed.searched (class-ready-same a r) (subst (λ (m : ℕ). 2 ^ m ≤ length area) (a .marks) l)
+    (subst (λ (x : Record). Searched (x .marks) (x .class) area v later) (record-same a) w)
+
+pub total-alike : {most : ℕ} {s u : Sheet} {v : Value} → Agree s u → Totalled most s v → Totalled most u v
+total-alike a (Totalled.spoiled n) = Totalled.spoiled (λ r. n (ready-same (agree-back a) r))
+total-alike {most} {s} {u} a (Totalled.told r) =
+    subst (λ (x : Record). Totalled most u (record { number = 0; value = totalOf x })) (sym (record-same a)) (Totalled.told (ready-same a r))
