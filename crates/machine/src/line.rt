@@ -19,6 +19,7 @@ pub struct Cut {
 }
 
 impl Line {
+    // The bytes that a line may have.
     pub const MOST: usize = 40;
 
     // The constant is the number of the definitions.

@@ -8,7 +8,6 @@ ghost use Rattle.print.specs.Texts.{decimal};
 ghost use Rattle.machine.specs.Machine.{refusal as refusalText, spoken as spokenText};
 ghost use Rattle.machine.specs.AtHand.{rowOf, LineFits, cutOff, refusalRoom};
 use crate::line::Line;
-use ground;
 use print;
 
 // A word, a number, what stands between, a number and a newline.
