@@ -1,41 +1,47 @@
-# make            build/libvault.a, and build/holdings: proved, then compiled (for x86-64)
+# make            the library, target/staticlib/libvault.a, and the desk program, target/bin/holdings: proved, then compiled (for x86-64)
 # make sample     the desk program on a sample session
+# make test       the tests outside the proofs (CALLS=400000 random calls from SEED=1)
 # make check      everything: the gate proves all from nothing, then the tests run on an archive made of what was just proved
-# make test       only the tests outside the proofs, on build/libvault.a (made first if it is missing or older than its sources)
 # make bench      the library's times, as ratios to plain C in the same run
 # make sanitize   the C programs of tests/ and examples/ under AddressSanitizer, UBSan and valgrind (see tests/sanitize)
-# make install PREFIX=/usr/local [DESTDIR=..]
+# make install    library, headers, program and manual pages, to PREFIX=/usr/local (DESTDIR=.. in front of it)
+# make uninstall  takes away what install put there
+# make clean      removes target/, where all that is built lies, the proofs' results too
+# make help       these lines
 PREFIX ?= /usr/local
-VERSION = 1.0
 CALLS ?= 400000
 SEED ?= 1
+# the three numbers of vault.h, with dots between
+VERSION := $(shell sed -n 's/^.define VAULT_VERSION_[A-Z]* \([0-9]*\)$$/\1/p' include/vault.h | paste -s -d .)
 
+library := target/staticlib/libvault.a
+program := target/bin/holdings
 sources := $(wildcard crates/*/src/*.rt crates/*/specs/*.antt crates.txt)
+place = $(DESTDIR)$(PREFIX)
+installed := include/vault.h include/vault_util.h lib/libvault.a lib/pkgconfig/vault.pc bin/holdings share/man/man1/holdings.1 share/man/man3/vault.3
 
-all: build/libvault.a build/holdings
+all: $(library) $(program)
 
 # rt proves what changed since it was last proved, and builds only what it proved. After the gate nothing has changed: the layers below are
 # taken as they are, and `vault` alone, which is thin, is checked again, since rt makes an archive in the run that proves it.
-build/libvault.a: $(sources)
-	@mkdir -p build
+$(library): $(sources)
 	rt staticlib vault
-	cp target/staticlib/libvault.a $@
 
-build/holdings: $(sources)
-	@mkdir -p build
+# rt leaves a program as it is if nothing in it changed: touch says that it is not older than its sources.
+$(program): $(sources)
 	rt check holdings
-	cp target/bin/holdings $@
+	@touch $@
 
-sample: build/holdings
-	@tools/x86 run build/holdings <crates/holdings/stdin
-
-check:
-	@tests/gate
+sample: $(program)
+	@tools/x86 run $(program) <crates/holdings/stdin
 
 test: all
 	@tests/run $(CALLS) $(SEED)
 
-bench: build/libvault.a
+check:
+	@tests/gate
+
+bench: $(library)
 	@bench/vault
 	@bench/seek
 
@@ -43,20 +49,25 @@ sanitize:
 	@tests/sanitize
 
 install: all
-	install -d $(DESTDIR)$(PREFIX)/include $(DESTDIR)$(PREFIX)/lib/pkgconfig
-	install -m 644 include/vault.h $(DESTDIR)$(PREFIX)/include/vault.h
-	install -m 644 build/libvault.a $(DESTDIR)$(PREFIX)/lib/libvault.a
-	sed -e 's|@prefix@|$(PREFIX)|' -e 's|@version@|$(VERSION)|' vault.pc.in >build/vault.pc
-	install -m 644 build/vault.pc $(DESTDIR)$(PREFIX)/lib/pkgconfig/vault.pc
-	install -d $(DESTDIR)$(PREFIX)/bin
-	install -m 755 build/holdings $(DESTDIR)$(PREFIX)/bin/holdings
-	install -d $(DESTDIR)$(PREFIX)/share/man/man1
-	install -m 644 man/holdings.1 $(DESTDIR)$(PREFIX)/share/man/man1/holdings.1
+	sed -e 's|@prefix@|$(PREFIX)|' -e 's|@version@|$(VERSION)|' vault.pc.in >target/vault.pc
+	install -D -m 644 include/vault.h $(place)/include/vault.h
+	install -D -m 644 include/vault_util.h $(place)/include/vault_util.h
+	install -D -m 644 $(library) $(place)/lib/libvault.a
+	install -D -m 644 target/vault.pc $(place)/lib/pkgconfig/vault.pc
+	install -D -m 755 $(program) $(place)/bin/holdings
+	install -D -m 644 man/holdings.1 $(place)/share/man/man1/holdings.1
+	install -D -m 644 man/vault.3 $(place)/share/man/man3/vault.3
+
+uninstall:
+	rm -f $(addprefix $(place)/,$(installed))
 
 clean:
-	rm -rf build target
+	rm -rf target
 
-.PHONY: all sample check test bench sanitize install clean
+help:
+	@sed -n 's/^# \(make .*\)/\1/p' Makefile
+
+.PHONY: all sample test check bench sanitize install uninstall clean help
 
 # two runs of rt at once would be in each other's way
 .NOTPARALLEL:

@@ -241,8 +241,9 @@ struct vault_reply PLAIN(before)(const uint8_t *a, size_t an, const uint8_t *b, 
     return reply(VAULT_DONE, 0, bn < an || (bn == an && an != 0 && memcmp(b, a, an) < 0));
 }
 
-struct vault_reply PLAIN(read_time)(const uint8_t *t, size_t n)
+struct vault_reply PLAIN(read_time)(const void *text, size_t n)
 {
+    const uint8_t *t = text;
     size_t i = 0;
     uint64_t minutes = 0;
     for (; i < n && t[i] >= '0' && t[i] <= '9'; i++) {

@@ -17,7 +17,7 @@ struct vault_reply PLAIN(total)(const uint8_t *sheet, size_t n);
 struct vault_reply PLAIN(outside)(const uint8_t *sheet, size_t n, uint64_t line);
 struct vault_reply PLAIN(held)(const uint8_t *sheet, size_t n, uint64_t line);
 struct vault_reply PLAIN(before)(const uint8_t *a, size_t an, const uint8_t *b, size_t bn);
-struct vault_reply PLAIN(read_time)(const uint8_t *t, size_t n);
+struct vault_reply PLAIN(read_time)(const void *text, size_t n);
 
 /* The same three jobs by the library's own steps: the kept numbers of all lines are worked out from what was read, checked, changed, written. */
 struct vault_reply tables_receive(const uint8_t *sheet, size_t n, uint64_t c, uint64_t seconds, uint8_t *out, size_t out_size);

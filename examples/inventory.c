@@ -1,174 +1,347 @@
-/* The overnight batch: takes a sheet from its file, or opens one of MARKS marks if there is no such file, makes the day's movements, keeps the sheet,
-   and prints the lines of the class with their times.
+/* The overnight batch: takes a sheet from its file, makes the day's movements, prints the lines of the class with their times, and keeps the sheet.
 
        inventory SHEET MARKS MOVEMENTS
 
-   A movement is a line `in P`, `out P`, `recv P T` or `gone P T`: P has a character 0 or 1 for each mark, the highest first, and T is a running time
-   such as 12:30. A movement that is refused is printed with the cause, and the rest go on. The sheet's file has the stored form, and is replaced
-   as a whole: it is written under another name first. Exit status: 0 done, 1 some movement refused, 2 nothing kept. */
+   Line 1 of MOVEMENTS is `night N`. Then each line is a movement, `in P`, `out P`, `recv P T` or `gone P T`, with one space between parts: P has a
+   character 0 or 1 for each of the MARKS marks, the highest first, and T is a running time such as 12:30. A movement that is refused is printed
+   with its line and the cause, and the rest go on.
+
+   Nights are numbered from 1, and each is made once. SHEET has the number of the last night made and the sheet's stored form in one file, which is
+   replaced as a whole: written beside it, brought to the disk, renamed. So the night is made or not made, wherever a power cut comes, and can be
+   run again: if its number is in the file already, nothing is made and the lines are printed. Any number but that one and the next is refused.
+   If there is no file, night 1 opens a sheet. SHEET.lock keeps out a second run; it stays there, empty.
+
+   Exit status: 0 done; 1 done, and some movement was refused; 2 not done, with the cause on standard error: run the same night again.
+   Nothing is kept before all that is printed has been written. */
 #define _POSIX_C_SOURCE 200809L
-#include "vault.h"
+#include "vault_util.h"
 #include <errno.h>
+#include <fcntl.h>
 #include <inttypes.h>
 #include <stdio.h>
-#include <stdlib.h>
 #include <string.h>
 #include <unistd.h>
 
-/* Two areas that the sheet goes between: it stands in form[now]. */
-static uint8_t form[2][VAULT_FORM_SIZE];
-static size_t size;
-static int now;
+enum { DONE = 0, SOME_REFUSED = 1, NOT_DONE = 2 };
 
-static const char *words(uint64_t answer)
-{
-    switch (answer) {
-    case VAULT_MARKS: return "marks are 1 to 5";
-    case VAULT_COMBINATION: return "no such combination";
-    case VAULT_STANDING: return "stands so already";
-    case VAULT_AMOUNT: return "a time from 0:01 to 599:59 is wanted";
-    case VAULT_ABOVE: return "more than a sheet can hold";
-    case VAULT_BELOW: return "less is held";
-    case VAULT_UNREADABLE: return "not readable";
-    default: return "refused";
-    }
-}
+/* The longest first line, `night` and 18 digits, and the longest of any, as at the desk, both without their newline; and room for a file's name. */
+enum { MOST_DIGITS = 18, NIGHT_LINE = 6 + MOST_DIGITS, LINE = 40, NAME = 4096 };
+
+struct batch {
+    struct vault_sheet sheet;
+    uint64_t night; /* the last one made; 0: none */
+    int again;      /* the night asked for is that one */
+    int refused;    /* some movement was */
+};
+
+struct text {
+    const char *start;
+    size_t size;
+};
 
 static int failed(const char *name, const char *why)
 {
     fprintf(stderr, "inventory: %s: %s\n", name, why);
-    return 2;
+    return NOT_DONE;
 }
 
-/* What was written is the sheet from now on; a refusal leaves the old one. */
-static uint64_t taken(struct vault_reply r)
+static int is(struct text t, const char *word)
 {
-    if (r.answer == VAULT_DONE) {
-        now = !now;
-        size = (size_t)r.value;
+    return t.size == strlen(word) && memcmp(t.start, word, t.size) == 0;
+}
+
+/* Splits a text at every space, and returns how many parts there are; the first `most` are handed back. */
+static size_t split(struct text t, struct text part[], size_t most)
+{
+    size_t parts = 0, from = 0;
+    for (size_t i = 0; i <= t.size; i++) {
+        if (i < t.size && t.start[i] != ' ')
+            continue;
+        if (parts < most)
+            part[parts] = (struct text){t.start + from, i - from};
+        parts++;
+        from = i + 1;
     }
-    return r.answer;
+    return parts;
+}
+
+/* A number of digits alone, without a needless zero in front; -1 if it is none. */
+static int64_t number(struct text t)
+{
+    int64_t n = 0;
+    if (t.size == 0 || t.size > MOST_DIGITS || (t.size > 1 && t.start[0] == '0'))
+        return -1;
+    for (size_t i = 0; i < t.size; i++) {
+        if (t.start[i] < '0' || t.start[i] > '9')
+            return -1;
+        n = n * 10 + (t.start[i] - '0');
+    }
+    return n;
+}
+
+/* The number of a line `night N`, which begins both files; -1 if it is none. */
+static int64_t night_of(struct text line)
+{
+    struct text part[2];
+    return split(line, part, 2) == 2 && is(part[0], "night") ? number(part[1]) : -1;
+}
+
+/* ---- the sheet's file */
+
+/* The name of a file beside the sheet's. */
+static int beside(char out[NAME], const char *name, const char *ending)
+{
+    int n = snprintf(out, NAME, "%s%s", name, ending);
+    return n >= 0 && n < NAME ? DONE : failed(name, "the name is too long");
+}
+
+/* Keeps other runs out until this one ends, however it ends: the system takes the lock off then. */
+static int lock(const char *name)
+{
+    struct flock whole = {.l_type = F_WRLCK, .l_whence = SEEK_SET};
+    char file[NAME];
+    if (beside(file, name, ".lock") != DONE)
+        return NOT_DONE;
+    int f = open(file, O_RDWR | O_CREAT | O_CLOEXEC, 0666); /* stays open: closing it would take the lock off */
+    if (f < 0)
+        return failed(file, strerror(errno));
+    if (fcntl(f, F_SETLK, &whole) != 0)
+        return failed(file, errno == EACCES || errno == EAGAIN ? "another run is at work" : strerror(errno));
+    return DONE;
+}
+
+/* The file's bytes: `night N`, a newline, and the stored form. */
+static int taken(struct batch *b, const char *name, const uint8_t *bytes, size_t size)
+{
+    const uint8_t *end = memchr(bytes, '\n', size);
+    int64_t night = end == NULL ? -1 : night_of((struct text){(const char *)bytes, (size_t)(end - bytes)});
+    if (night < 1)
+        return failed(name, "no sheet: it does not begin with a night");
+    size_t front = (size_t)(end - bytes) + 1;
+    struct vault_reply r = vault_sheet_read(&b->sheet, bytes + front, size - front);
+    b->night = (uint64_t)night;
+    if (r.answer == VAULT_DONE)
+        return DONE;
+    fprintf(stderr, "inventory: %s: no sheet: %s, at byte %" PRIu64 "\n", name, vault_answer_text(r.answer), r.place + front);
+    return NOT_DONE;
 }
 
 /* The sheet from its file, or a new one. */
-static int begin(const char *name, const char *marks)
+static int begin(struct batch *b, const char *name, uint64_t marks)
 {
-    uint8_t bytes[VAULT_FORM_SIZE + 1];
+    uint8_t bytes[NIGHT_LINE + 1 + VAULT_FORM_SIZE + 1]; /* one more than there can be: the library then sees what is left over */
     FILE *f = fopen(name, "rb");
-    if (f == NULL) {
-        if (errno != ENOENT)
-            return failed(name, strerror(errno));
-        uint64_t answer = taken(vault_open(strtoull(marks, NULL, 10), form[!now], sizeof form[!now]));
-        return answer == VAULT_DONE ? 0 : failed(marks, words(answer));
+    if (f == NULL && errno == ENOENT) {
+        uint64_t answer = vault_sheet_open(&b->sheet, marks).answer;
+        b->night = 0;
+        return answer == VAULT_DONE ? DONE : failed("MARKS", vault_answer_text(answer));
     }
+    if (f == NULL)
+        return failed(name, strerror(errno));
     size_t n = fread(bytes, 1, sizeof bytes, f);
-    int bad = ferror(f);
-    fclose(f);
-    if (bad)
-        return failed(name, "cannot be read");
-    struct vault_reply r = vault_copy(bytes, n, form[!now], sizeof form[!now]);
-    if (taken(r) == VAULT_DONE)
-        return 0;
-    fprintf(stderr, "inventory: %s: no sheet, answer %" PRIu64 " at byte %" PRIu64 "\n", name, r.answer, r.place);
-    return 2;
+    int bad = ferror(f) ? errno : 0;
+    if (fclose(f) != 0 || bad != 0)
+        return failed(name, strerror(bad != 0 ? bad : errno));
+    int status = taken(b, name, bytes, n);
+    if (status == DONE && vault_sheet_marks(&b->sheet) != marks)
+        return failed(name, "its sheet has another number of marks");
+    return status;
 }
 
+/* Writes all the bytes and brings them to the disk: 0, or the system's number of what went wrong. */
+static int put(int f, const uint8_t *bytes, size_t size)
+{
+    while (size > 0) {
+        ssize_t n = write(f, bytes, size);
+        if (n < 0 && errno == EINTR)
+            continue;
+        if (n < 0)
+            return errno;
+        bytes += n;
+        size -= (size_t)n;
+    }
+    return fsync(f) == 0 ? 0 : errno;
+}
+
+/* The new file, whole and on the disk, under its first name. */
+static int laid(const struct batch *b, const char *fresh)
+{
+    uint8_t bytes[NIGHT_LINE + 2 + VAULT_FORM_SIZE];
+    int n = snprintf((char *)bytes, NIGHT_LINE + 2, "night %" PRIu64 "\n", b->night);
+    int f = open(fresh, O_WRONLY | O_CREAT | O_TRUNC | O_CLOEXEC, 0666);
+    if (f < 0)
+        return failed(fresh, strerror(errno));
+    memcpy(bytes + n, vault_sheet_bytes(&b->sheet), vault_sheet_size(&b->sheet));
+    int bad = put(f, bytes, (size_t)n + vault_sheet_size(&b->sheet));
+    if (close(f) != 0 && bad == 0)
+        bad = errno;
+    return bad == 0 ? DONE : failed(fresh, strerror(bad));
+}
+
+/* Brings the name itself to the disk: it stands in the directory. */
+static int settled(const char *name)
+{
+    char directory[NAME] = ".";
+    const char *slash = strrchr(name, '/');
+    if (slash != NULL)
+        snprintf(directory, NAME, "%.*s", slash == name ? 1 : (int)(slash - name), name);
+    int f = open(directory, O_RDONLY | O_CLOEXEC);
+    int bad = f < 0 || fsync(f) != 0 ? errno : 0;
+    if (f >= 0 && close(f) != 0 && bad == 0)
+        bad = errno;
+    return bad == 0 ? DONE : failed(directory, strerror(bad));
+}
+
+/* The new file takes the old one's place when all of it is on the disk; if it cannot, it goes, and the old one stays. */
+static int keep(const struct batch *b, const char *name)
+{
+    char fresh[NAME];
+    if (beside(fresh, name, ".new") != DONE)
+        return NOT_DONE;
+    int status = laid(b, fresh);
+    if (status == DONE && rename(fresh, name) != 0)
+        status = failed(name, strerror(errno));
+    if (status != DONE) {
+        unlink(fresh); /* it may not be there */
+        return status;
+    }
+    return settled(name);
+}
+
+/* ---- the movements */
+
 /* A combination as it is written, or one that no sheet has. */
-static uint64_t combination(const char *p)
+static uint64_t combination(struct text p, size_t marks)
 {
     uint64_t c = 0;
-    if (strlen(p) != form[now][0])
+    if (p.size != marks)
         return UINT64_MAX;
-    for (; *p != '\0'; p++) {
-        if (*p != '0' && *p != '1')
+    for (size_t i = 0; i < p.size; i++) {
+        if (p.start[i] != '0' && p.start[i] != '1')
             return UINT64_MAX;
-        c = c * 2 + (uint64_t)(*p - '0');
+        c = c * 2 + (p.start[i] == '1');
     }
     return c;
 }
 
-static uint64_t move(const char *line)
+/* One movement. Its answer is the library's, or VAULT_UNREADABLE for a line that is none. */
+static uint64_t movement(struct vault_sheet *s, struct text line)
 {
-    char verb[8], p[8], t[16], more[2];
-    uint8_t *out = form[!now];
-    int parts = sscanf(line, "%7s %7s %15s %1s", verb, p, t, more);
-    if (parts == 2 && strcmp(verb, "in") == 0)
-        return taken(vault_enter(form[now], size, combination(p), out, VAULT_FORM_SIZE));
-    if (parts == 2 && strcmp(verb, "out") == 0)
-        return taken(vault_leave(form[now], size, combination(p), out, VAULT_FORM_SIZE));
-    if (parts != 3)
+    struct text part[3];
+    size_t parts = split(line, part, 3);
+    if (parts < 2 || parts > 3)
         return VAULT_UNREADABLE;
-    struct vault_reply time = vault_read_time((const uint8_t *)t, strlen(t));
+    uint64_t c = combination(part[1], vault_sheet_marks(s));
+    if (parts == 2)
+        return is(part[0], "in") ? vault_sheet_enter(s, c).answer : is(part[0], "out") ? vault_sheet_leave(s, c).answer : VAULT_UNREADABLE;
+    struct vault_reply time = vault_read_time(part[2].start, part[2].size);
     if (time.answer != VAULT_DONE)
         return time.answer;
-    if (strcmp(verb, "recv") == 0)
-        return taken(vault_receive(form[now], size, combination(p), time.value, out, VAULT_FORM_SIZE));
-    if (strcmp(verb, "gone") == 0)
-        return taken(vault_withdraw(form[now], size, combination(p), time.value, out, VAULT_FORM_SIZE));
-    return VAULT_UNREADABLE;
+    if (is(part[0], "recv"))
+        return vault_sheet_receive(s, c, time.value).answer;
+    return is(part[0], "gone") ? vault_sheet_withdraw(s, c, time.value).answer : VAULT_UNREADABLE;
 }
 
-static int movements(const char *name, int *refused)
+enum found { WHOLE, UNREADABLE, NO_MORE };
+
+/* The next line, taken with its newline. A line that is too long, or a last one without newline, is one line all the same, and unreadable. */
+static enum found next(FILE *f, char line[LINE], struct text *t)
 {
-    char line[128];
-    FILE *f = fopen(name, "r");
-    if (f == NULL)
-        return failed(name, strerror(errno));
-    for (int k = 1; fgets(line, sizeof line, f) != NULL; k++) {
-        uint64_t answer = move(line);
-        if (answer != VAULT_DONE) {
-            printf("refused %d: %s\n", k, words(answer));
-            *refused = 1;
-        }
+    size_t n = 0;
+    int c = getc(f);
+    if (c == EOF)
+        return NO_MORE;
+    for (; c != EOF && c != '\n'; c = getc(f)) {
+        if (n < LINE)
+            line[n] = (char)c;
+        n += n <= LINE;
     }
-    int bad = ferror(f);
-    fclose(f);
-    return bad ? failed(name, "cannot be read") : 0;
+    *t = (struct text){line, n};
+    return c == '\n' && n <= LINE ? WHOLE : UNREADABLE;
 }
 
-/* The new file takes the old one's place when all of it is on the disk. */
-static int keep(const char *name)
+/* Every line behind line 1. */
+static void movements(struct batch *b, FILE *f)
 {
-    char fresh[4096];
-    if (snprintf(fresh, sizeof fresh, "%s.new", name) >= (int)sizeof fresh)
-        return failed(name, "the name is too long");
-    FILE *f = fopen(fresh, "wb");
-    if (f == NULL)
-        return failed(fresh, strerror(errno));
-    int good = fwrite(form[now], 1, size, f) == size && fflush(f) == 0 && fsync(fileno(f)) == 0;
-    if (fclose(f) != 0 || !good || rename(fresh, name) != 0)
-        return failed(name, strerror(errno));
-    return 0;
+    char line[LINE];
+    struct text t;
+    enum found found;
+    for (uint64_t k = 2; (found = next(f, line, &t)) != NO_MORE; k++) {
+        uint64_t answer = found == WHOLE ? movement(&b->sheet, t) : VAULT_UNREADABLE;
+        if (answer == VAULT_DONE)
+            continue;
+        printf("refused %" PRIu64 ": %s\n", k, vault_answer_text(answer));
+        b->refused = 1;
+    }
 }
 
-static void show(void)
+/* The night of the file, if it is the next one; nothing, if it is the last one made. */
+static int night(struct batch *b, FILE *f, const char *name)
+{
+    char line[LINE];
+    struct text t;
+    int64_t n = next(f, line, &t) == WHOLE ? night_of(t) : -1;
+    if (ferror(f))
+        return failed(name, strerror(errno));
+    if (n < 1)
+        return failed(name, "line 1 is not `night` and a number from 1 on");
+    b->again = (uint64_t)n == b->night;
+    if (b->again) {
+        printf("night %" PRId64 " was made before\n", n);
+        return DONE;
+    }
+    if ((uint64_t)n != b->night + 1) {
+        fprintf(stderr, "inventory: %s: night %" PRId64 ", but the last one made is %" PRIu64 "\n", name, n, b->night);
+        return NOT_DONE;
+    }
+    b->night++;
+    movements(b, f);
+    return ferror(f) ? failed(name, strerror(errno)) : DONE;
+}
+
+static int made(struct batch *b, const char *name)
+{
+    FILE *f = fopen(name, "rb");
+    if (f == NULL)
+        return failed(name, strerror(errno));
+    int status = night(b, f, name);
+    if (fclose(f) != 0 && status == DONE)
+        return failed(name, strerror(errno));
+    return status;
+}
+
+/* ---- what is printed */
+
+static int shown(const struct vault_sheet *s)
 {
     uint8_t list[VAULT_LIST_SIZE];
-    struct vault_reply r = vault_list(form[now], size, list, sizeof list);
-    uint64_t total = vault_total(form[now], size).value;
-    printf("class %" PRIu64 ", lines %" PRIu64 "\n", vault_class_size(form[now], size).value, r.value);
-    for (uint64_t i = 0; i < r.value; i++) {
-        uint64_t s = vault_held(form[now], size, list[i]).value;
-        char pattern[VAULT_MOST_MARKS + 1] = "";
-        for (int m = form[now][0], b = list[i]; m-- > 0; b /= 3)
-            pattern[m] = "01-"[b % 3];
-        printf("%s %" PRIu64 ":%02" PRIu64 "\n", pattern, s / 60, s % 60);
-    }
-    printf("total %" PRIu64 ":%02" PRIu64 "\n", total / 60, total % 60);
+    char pattern[VAULT_PATTERN_SIZE], time[VAULT_TIME_SIZE];
+    struct vault_reply lines = vault_sheet_list(s, list);
+    printf("class %" PRIu64 ", lines %" PRIu64 "\n", vault_sheet_class_size(s).value, lines.value);
+    for (uint64_t i = 0; i < lines.value; i++)
+        printf("%s %s\n", vault_line_pattern(vault_sheet_marks(s), list[i], pattern), vault_time_text(vault_sheet_held(s, list[i]).value, time));
+    printf("total %s\n", vault_time_text(vault_sheet_total(s).value, time));
+    if (fflush(stdout) != 0 || ferror(stdout))
+        return failed("standard output", "not all of it could be written");
+    return DONE;
 }
 
 int main(int argc, char **argv)
 {
-    int refused = 0;
+    static struct batch b;
     if (argc != 4)
         return failed("usage", "inventory SHEET MARKS MOVEMENTS");
-    int status = begin(argv[1], argv[2]);
-    if (status == 0)
-        status = movements(argv[3], &refused);
-    if (status == 0)
-        status = keep(argv[1]);
-    if (status != 0)
-        return status;
-    show();
-    return refused;
+    int64_t marks = number((struct text){argv[2], strlen(argv[2])});
+    if (marks < 1 || marks > VAULT_MOST_MARKS)
+        return failed(argv[2], vault_answer_text(VAULT_MARKS));
+    int status = lock(argv[1]);
+    if (status == DONE)
+        status = begin(&b, argv[1], (uint64_t)marks);
+    if (status == DONE)
+        status = made(&b, argv[3]);
+    if (status == DONE)
+        status = shown(&b.sheet);
+    if (status == DONE)
+        status = b.again ? settled(argv[1]) : keep(&b, argv[1]);
+    return status == DONE && b.refused ? SOME_REFUSED : status;
 }

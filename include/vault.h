@@ -1,5 +1,5 @@
 /*
- * vault.h: the shelf lists of the film vault, for C99 and C++.
+ * vault.h: the shelf lists of the film vault, for C99 and C++. vault(3) is its manual page, and vault_util.h has what a caller writes around it.
  *
  * A sheet says, for 1 to 5 marks, which combinations of marks are in the class and how many seconds of film each combination holds. A
  * combination is the sum of 2^i over the marks i that are on, 0 to 2^m - 1. A line is a box: each mark has a digit, 0 off, 1 on, 2 free, and the
@@ -14,8 +14,8 @@
  *     count (2 bytes, low byte first), then the held combinations, strictly rising: one byte, and the seconds (1 or more) in 4 bytes, low first
  *
  * An entry that changes a sheet takes the old stored form in one area and writes the new one to another, which the program takes for the
- * sheet from then on. Nothing else is kept: no memory is allocated, there is no state between calls, and nothing is locked, so that threads
- * may call any entries at once as long as none writes to an area that another uses. An entry needs less than 64 kB of stack.
+ * sheet from then on: never in place. Nothing else is kept: no memory is allocated, there is no state between calls, and nothing is locked, so
+ * that threads may call any entries at once as long as none writes to an area that another uses. An entry needs less than 64 kB of stack.
  *
  * Areas. A pointer and a length lend that many bytes for the time of the call. Any length is taken. A null pointer with length 0 is an empty
  * area; with another length it must not be null. An area that is written to may not overlap any other; two that are only read may. A byte
@@ -31,8 +31,11 @@
  *     VAULT_UNREADABLE  with place 0, if there is no byte
  *     VAULT_MARKS       if its first byte is not 1 to 5
  *     VAULT_UNREADABLE  with the offset of the first faulty field: a count above 2^m, a combination not below 2^m or not above the one before,
- *                       seconds of 0, or seconds that bring the sum above VAULT_MOST_HELD; with the length, if the bytes end early; with the
- *                       offset of the first byte left over.
+ *                       seconds of 0, or seconds that bring the sum above VAULT_MOST_HELD; or with the length, if the bytes end early; or with
+ *                       the offset of the first byte left over.
+ * Fields are judged in order, each once all its bytes are there. So a faulty field that is complete comes before bytes that end early, and one
+ * that is cut short is not judged: the bytes 1, 3, 0 have place 1, a count above 2, and the bytes 1, 3 have place 2, where they end. The seconds
+ * of a held combination are a field of their own, with their own offset, one above that of the combination.
  */
 #ifndef VAULT_H
 #define VAULT_H
@@ -43,6 +46,14 @@
 #ifdef __cplusplus
 extern "C" {
 #endif
+
+/* The version, as three numbers and as text with dots between. The three lines are its one source: Makefile and vault.pc take it from here. */
+#define VAULT_VERSION_MAJOR 1
+#define VAULT_VERSION_MINOR 0
+#define VAULT_VERSION_PATCH 0
+#define VAULT_DOTTED(a, b, c) #a "." #b "." #c
+#define VAULT_DOTTED_VALUES(a, b, c) VAULT_DOTTED(a, b, c)
+#define VAULT_VERSION VAULT_DOTTED_VALUES(VAULT_VERSION_MAJOR, VAULT_VERSION_MINOR, VAULT_VERSION_PATCH)
 
 /* The answers. */
 enum vault_answer {
@@ -85,6 +96,11 @@ struct vault_reply {
  * Refused: VAULT_MARKS if marks is not 1 to 5; VAULT_ROOM if out has fewer than 5 bytes.
  */
 struct vault_reply vault_open(uint64_t marks, uint8_t *out, size_t out_size);
+
+/*
+ * The four changes. Never in place: out may not overlap the sheet. The value is the size of the new form, which out holds only if the answer is
+ * VAULT_DONE; after a refusal the old form is still the sheet.
+ */
 
 /*
  * Puts a combination into the class (enter), or takes it out (leave). Value: the bytes written.
@@ -145,11 +161,11 @@ struct vault_reply vault_held(const uint8_t *sheet, size_t sheet_size, uint64_t 
 struct vault_reply vault_before(const uint8_t *first, size_t first_size, const uint8_t *second, size_t second_size);
 
 /*
- * Reads a running time: minutes 0 to 599 without a needless zero in front, a colon, two digits of seconds 00 to 59, and nothing else.
- * Value: the seconds, 0 to 35,999.
+ * Reads a running time: minutes 0 to 599 without a needless zero in front, a colon, two digits of seconds 00 to 59, and nothing else. The text is
+ * lent as const void *, so that a char * is passed as it is. Value: the seconds, 0 to 35,999.
  * Refused: VAULT_UNREADABLE, with the length of the longest beginning of the text that some readable text begins with too.
  */
-struct vault_reply vault_read_time(const uint8_t *text, size_t text_size);
+struct vault_reply vault_read_time(const void *text, size_t text_size);
 
 #ifdef __cplusplus
 }

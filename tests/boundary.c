@@ -180,6 +180,7 @@ static void reading(void)
         {{1}, 1, 10, 1},
         {{1, 0}, 2, 10, 2},
         {{1, 3, 0}, 3, 10, 1},
+        {{1, 3}, 2, 10, 2},
         {{1, 0, 1}, 3, 10, 1},
         {{1, 1, 0}, 3, 10, 3},
         {{1, 1, 0, 2}, 4, 10, 3},
@@ -191,6 +192,7 @@ static void reading(void)
         {{1, 0, 0, 1, 0, 2}, 6, 10, 5},
         {{1, 0, 0, 1, 0, 1, 1, 0, 0}, 9, 10, 9},
         {{1, 0, 0, 1, 0, 1, 0, 0, 0, 0}, 10, 10, 6},
+        {{1, 0, 0, 2, 0, 0, 0, 0, 0, 0}, 10, 10, 6},
         {{1, 0, 0, 1, 0, 1, 1, 0x28, 0x6b, 0xee}, 10, 10, 6},
         {{1, 0, 0, 2, 0, 0, 1, 0, 0, 0, 1, 0x00, 0x28, 0x6b, 0xee}, 15, 10, 11},
         {{1, 0, 0, 2, 0, 1, 1, 0, 0, 0, 1, 1, 0, 0, 0}, 15, 10, 10},
@@ -337,9 +339,9 @@ static void times(void)
         {"5 :59", 10, 1, 0},   {"5:-1", 10, 2, 0},    {"599", 10, 3, 0},     {"5990:00", 10, 3, 0}, {"1000:00", 10, 3, 0}, {"5::59", 10, 2, 0},
     };
     for (size_t i = 0; i < sizeof t / sizeof *t; i++)
-        check(is(vault_read_time((const uint8_t *)t[i].text, strlen(t[i].text)), t[i].answer, t[i].place, t[i].value), t[i].text, (long)i);
+        check(is(vault_read_time(t[i].text, strlen(t[i].text)), t[i].answer, t[i].place, t[i].value), t[i].text, (long)i);
     check(is(vault_read_time(NULL, 0), VAULT_UNREADABLE, 0, 0), "no text", 0);
-    check(is(vault_read_time((const uint8_t *)"5:5\0", 4), VAULT_UNREADABLE, 3, 0), "a zero byte", 0);
+    check(is(vault_read_time("5:5\0", 4), VAULT_UNREADABLE, 3, 0), "a zero byte", 0);
 }
 
 /* Threads with the stack that the header names and some for the C library itself (or the least there is), each on its own areas. */

@@ -11,7 +11,7 @@ use Rattle.sheet.specs.Limits.{entries}
 use Rattle.sheet.specs.Record.{Record, sheetOf, opened}
 use Rattle.sheet.specs.declared.Sheet.{Sheet}
 use Rattle.machine.specs.Rows.{Row, judged}
-use Rattle.machine.specs.Pieces.{Position, in-line, start, numberIn, none, FinishedBy, Finishes}
+use Rattle.machine.specs.Pieces.{Position, in-line, start, lineIn, none, FinishedBy, Finishes}
 use Rattle.machine.specs.AtHand.{rowOf, empty, typed, cutOff, LineFits, cutOf}
 use Rattle.machine.specs.declared.line.Line.{Line}
 use Rattle.machine.specs.declared.line.Cut.{Cut}
@@ -52,7 +52,7 @@ module _ {d : Desk} where
   pub at-state : (p : Position holdings) → At d p → (s : State) × In (d .session) s
   at-state (in-line k s begun) a = (s, at-in a)
 
-  pub at-number : (p : Position holdings) → At d p → d .line .number ≡ numberIn p
+  pub at-number : (p : Position holdings) → At d p → d .line .number ≡ lineIn p
   at-number (in-line k s begun) a = typed-number k begun (at-line a)
 
   -- a piece that was cut

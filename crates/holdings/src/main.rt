@@ -1,5 +1,6 @@
 // The desk program: reads standard input, feeds the desk, and writes at once what it says.
 use desk::Desk;
+use libc::STDERR_FILENO;
 use libc::STDIN_FILENO;
 use libc::STDOUT_FILENO;
 ghost use mathlib.Core.Path.{_≡_};
@@ -23,6 +24,15 @@ fn room() -> [u8; Desk::ROOM]
     [0u8; Desk::ROOM]
 }
 
+// Writes a text to standard output; where that fails it is said on standard error, so that no result is lost in silence.
+fn send(text: &[u8]) -> bool {
+    if io::write_all(STDOUT_FILENO, text) {
+        return true;
+    }
+    io::write_all(STDERR_FILENO, b"holdings: the output cannot be written\n");
+    false
+}
+
 // One piece of input: what a line says is written before the next line is looked at.
 fn serve(d: Desk, piece: &[u8]) -> Served
     requires { ⌜ DeskStands d ⌝ }
@@ -37,7 +47,7 @@ fn serve(d: Desk, piece: &[u8]) -> Served
         let n = fed.wrote;
         let after = fed.desk;
         desk = after;
-        if !io::write_all(STDOUT_FILENO, &out[..n]) {
+        if !send(&out[..n]) {
             return Served { desk, stop: true };
         }
         if desk.is_over() {
@@ -55,10 +65,10 @@ fn close(d: Desk)
 {
     let mut out = room();
     let n = desk::finish(d, &mut out);
-    io::write_all(STDOUT_FILENO, &out[..n]);
+    send(&out[..n]);
 }
 
-// One read. An error of reading ends the program.
+// One read. An error of reading ends the program, and is said on standard error.
 fn turn(d: Desk) -> Served
     requires { ⌜ DeskStands d ⌝ }
     requires { ⌜ d .line .number + 4096 < 2 ^ 63 ⌝ }
@@ -67,6 +77,7 @@ fn turn(d: Desk) -> Served
     let mut buf = io::buffer();
     let got = libc::read(STDIN_FILENO, &mut buf);
     if got < 0 {
+        io::write_all(STDERR_FILENO, b"holdings: the input cannot be read\n");
         return Served {
             desk: d,
             stop: true,

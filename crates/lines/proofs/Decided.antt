@@ -12,7 +12,7 @@ use Rattle.times.specs.declared.Lead.the-variants.{Colon, Stop}
 use Rattle.ground.specs.Texts.{ascii, Begins}
 use Rattle.times.specs.Texts.{After, Behind, Readable}
 use Rattle.times.specs.Places.{ReadsAs}
-use Rattle.times.specs.Parts.{Led, moved, Follows}
+use Rattle.times.specs.Parts.{Led, placedOn, Follows}
 use Rattle.times.proofs.Behinds.{after-end, after-more, behind-none, behind-tens, behind-one, behind-ones, behind-two}
 use Rattle.times.proofs.Fronts.{SoFar, far-none, far-step, stop-at, colon-at, end-at, led-stop, led-on}
 use Rattle.sheet.specs.declared.Call.{Call}
@@ -57,7 +57,7 @@ behind-decided n l =
     range-or 48 57 (getD l 1 0)
     (λ o. let x = (getD l 0 0 - 48) * 10 + (getD l 1 0 - 48) in
     let w = after-decided n x (drop 2 l) in
-    (moved 2 (w .0), behind-two n l x (omega arith) t o refl (w .1)))
+    (placedOn 2 (w .0), behind-two n l x (omega arith) t o refl (w .1)))
     (λ o. (Fault 1, behind-ones n l (omega arith) t o))))
     (λ t. (Fault 0, behind-tens n l (omega arith) t)))
 
@@ -86,7 +86,7 @@ time-decided t = go (led-decided t (length t) 0 0 (omega arith) far-none)
   where
     go : (r : Lead) × Led t r → (r : Time) × ReadsAs Readable t r
     go (Stop p, l) = (Fault p, led-stop l)
-    go (Colon n k, l) = let w = behind-decided n (drop k t) in (moved k (w .0), led-on t n k l (w .1))
+    go (Colon n k, l) = let w = behind-decided n (drop k t) in (placedOn k (w .0), led-on t n k l (w .1))
 
 -- parts behind a verb
 

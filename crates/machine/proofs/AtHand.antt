@@ -124,24 +124,24 @@ row-short l e = rw e
 
 -- a piece of which i bytes are taken, none of them a newline
 
-abbrev pub shifted : ℕ → Cut → Cut
-shifted i c = record { line = c .line; used = i + c .used; ended = c .ended }
+abbrev pub usedMore : ℕ → Cut → Cut
+usedMore i c = record { line = c .line; used = i + c .used; ended = c .ended }
 
-pub cut-none : (c : Cut) → c ≡ shifted 0 c
+pub cut-none : (c : Cut) → c ≡ usedMore 0 c
 cut-none c = ap (λ (n : ℕ). record { line = c .line; used = n; ended = c .ended }) (omega arith)
 
 module _ (l : Line) (piece : List ℕ) (i : ℕ) (h : i < length piece) where
-  pub cut-newline : getD piece i 0 ≡ 10 → shifted i (cutOf l (drop i piece)) ≡ record { line = l; used = i + 1; ended = true }
+  pub cut-newline : getD piece i 0 ≡ 10 → usedMore i (cutOf l (drop i piece)) ≡ record { line = l; used = i + 1; ended = true }
   unfolding cutOf
   cut-newline e = rw (drop-cons piece i 0 h, eq-eqb _ _ e)
 
-  pub cut-byte : (getD piece i 0 ≡ 10 → ⊥) → shifted i (cutOf l (drop i piece)) ≡ shifted (i + 1) (cutOf (pushed l (getD piece i 0)) (drop (i + 1) piece))
+  pub cut-byte : (getD piece i 0 ≡ 10 → ⊥) → usedMore i (cutOf l (drop i piece)) ≡ usedMore (i + 1) (cutOf (pushed l (getD piece i 0)) (drop (i + 1) piece))
   unfolding cutOf
   cut-byte n =
       let c = cutOf (pushed l (getD piece i 0)) (drop (suc i) piece) in
       let u : i + suc (c .used) ≡ suc i + c .used = omega arith in
       rw (add-one i, drop-cons piece i 0 h, ne-eqb _ _ n) (ap (λ (n : ℕ). record { line = c .line; used = n; ended = c .ended }) u)
 
-pub cut-all : (l : Line) (piece : List ℕ) (i : ℕ) → length piece ≤ i → shifted i (cutOf l (drop i piece)) ≡ record { line = l; used = i; ended = false }
+pub cut-all : (l : Line) (piece : List ℕ) (i : ℕ) → length piece ≤ i → usedMore i (cutOf l (drop i piece)) ≡ record { line = l; used = i; ended = false }
 unfolding cutOf
 cut-all l piece i h = rw (drop-of-length-le piece h) (ap (λ (n : ℕ). record { line = l; used = n; ended = false }) (omega arith))

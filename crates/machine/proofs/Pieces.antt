@@ -14,7 +14,7 @@ use Rattle.ground.specs.Areas.{Wrote}
 use Rattle.ground.proofs.Areas.{wrote-none}
 use Rattle.machine.specs.Rows.{Row, spoiled, judged, rowsFrom, rows}
 use Rattle.machine.specs.Machine.{Machine, refusal, Onward, stopped, line, Output}
-use Rattle.machine.specs.Pieces.{Position, in-line, start, numberIn, Takes, none, byte, newline, Finishes, ended, cut-off, InPieces, done, piece, upToNewline, FedBy}
+use Rattle.machine.specs.Pieces.{Position, in-line, start, lineIn, Takes, none, byte, newline, Finishes, ended, cut-off, InPieces, done, piece, upToNewline, FedBy}
 use Rattle.machine.specs.AtHand.{typed, cutOf, cutOff}
 use Rattle.machine.specs.declared.line.Line.{Line}
 use Rattle.machine.specs.declared.line.Cut.{Cut}
@@ -143,7 +143,7 @@ finishes-cut t (x ∷ begun) text e a b = rw (none-judged (x ∷ begun), ne-eqb 
 
 -- for a caller that goes on behind the call
 
-pub takes-number : {M : Machine} {p q : Position M} {a said : List ℕ} → Takes M p a q said → numberIn q ≤ numberIn p + length a
+pub takes-number : {M : Machine} {p q : Position M} {a said : List ℕ} → Takes M p a q said → lineIn q ≤ lineIn p + length a
 takes-number none = omega arith
 takes-number (byte n p) = omega (arith, takes-number p)
 takes-number (newline e p) = omega (arith, takes-number p)

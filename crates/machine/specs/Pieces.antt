@@ -17,8 +17,8 @@ pub data Position (M : Machine) : Type 0 where
 abbrev pub start : (M : Machine) → Position M
 start M = in-line 1 (M .start) []
 
-abbrev pub numberIn : {M : Machine} → Position M → ℕ
-numberIn (in-line k s begun) = k
+abbrev pub lineIn : {M : Machine} → Position M → ℕ
+lineIn (in-line k s begun) = k
 
 abbrev pub stateIn : {M : Machine} → Position M → M .State
 stateIn (in-line k s begun) = s

@@ -17,7 +17,7 @@ use Rattle.stored.specs.Parts.{unset}
 use Rattle.stored.specs.Fields.{Next, due, count, combination, behind, sectionsDue, entriesDue, judge, refused, Run}
 use Rattle.stored.specs.declared.Section.{Section}
 use Rattle.stored.proofs.Sections.{held-more}
-use Rattle.reading.specs.Parts.{FieldRead, Leads, least, withOwn, Before, Got, PartRead, bad, good}
+use Rattle.reading.specs.Parts.{FieldRead, Leads, least, withOwn, ReadBefore, Got, PartRead, bad, good}
 use Rattle.reading.specs.declared.fields.Field.{Field}
 use Rattle.reading.specs.declared.sections.Part.{Part}
 use Rattle.reading.proofs.Offsets.{start as at-start, then, then-run, field-inside, field-number, field-taken, field-wrong}
@@ -88,14 +88,14 @@ module _ {t : List ℕ} {at sum : ℕ} {f : Field} (s : Section) (rest : List Se
   behind-wrong g l = field-wrong (behind s rest r left c) refl v g l (λ x small n. rw (es, may-not s sum x h small n))
 
 -- What the loop keeps: it stands at the combinations from `low` on, `left` of them, with `sum` seconds so far.
-pub record Reached (t : List ℕ) (s : Section) (m n start : ℕ) (own : List ℕ) (at low left sum : ℕ) : Type 0 where
+pub record EntriesReached (t : List ℕ) (s : Section) (m n start : ℕ) (own : List ℕ) (at low left sum : ℕ) : Type 0 where
   pub got : Got t s m (λ (rest : List Section) (r : Record). entriesDue s rest r n 0) (λ (rest : List Section) (r : Record). entriesDue s rest r left low) start own at
   pub clear : (c : ℕ) → low ≤ c → c < 2 ^ m → entry own c ≡ unset s
-  pub sum-is : (r : Record) → Before s m r → heldIn (withOwn s (entry own) r) ≡ sum
+  pub sum-is : (r : Record) → ReadBefore s m r → heldIn (withOwn s (entry own) r) ≡ sum
   pub sum-most : sum ≤ mostHeld
 
 pub reached-none : (t : List ℕ) (s : Section) (m n start : ℕ) (own : List ℕ) → start ≤ length t → 2 ^ m ≤ length own → ((c : ℕ) → c < 2 ^ m → entry own c ≡ unset s)
-    → Reached t s m n start own start 0 n 0
+    → EntriesReached t s m n start own start 0 n 0
 reached-none t s m n start own inside long clear = record {
   got = record {
     inside = inside;
@@ -108,7 +108,7 @@ reached-none t s m n start own inside long clear = record {
   sum-most = omega arith;
 }
 
-module _ {t : List ℕ} {s : Section} {m n start : ℕ} {own : List ℕ} {at low left sum : ℕ} (v : Reached t s m n start own at low left sum) where
+module _ {t : List ℕ} {s : Section} {m n start : ℕ} {own : List ℕ} {at low left sum : ℕ} (v : EntriesReached t s m n start own at low left sum) where
   pub reached-end : left ≡ 0 → Got t s m (λ (rest : List Section) (r : Record). entriesDue s rest r n 0) sectionsDue start own at
   reached-end e = record {
     inside = v .got .inside;
@@ -120,24 +120,24 @@ module _ {t : List ℕ} {s : Section} {m n start : ℕ} {own : List ℕ} {at low
 
   module _ {f : Field} (some : 0 < left) (read : FieldRead t at 1 low (2 ^ m - 1) f) where
     -- a wrong combination
-    pub entry-wrong : f .good ≡ false → (rest : List Section) (r : Record) → Before s m r → Run mostMarks (entriesDue s rest r n 0) start (drop start t) (refused 10 (f .at))
+    pub entry-wrong : f .good ≡ false → (rest : List Section) (r : Record) → ReadBefore s m r → Run mostMarks (entriesDue s rest r n 0) start (drop start t) (refused 10 (f .at))
     entry-wrong g rest r b =
         then-run (v .got .leads rest r b) (combination-wrong s rest (withOwn s (entry own) r) left some (own-marks s (entry own) r ∙ b .marks) read g (v .got .inside))
 
     module _ {x : Field} (g : f .good ≡ true) (next : FieldRead t (f .at) (bytesBehind s) (least s) (mostHeld - sum) x) where
       -- where the number behind it is due
-      to-behind : (rest : List Section) (r : Record) → Before s m r
+      to-behind : (rest : List Section) (r : Record) → ReadBefore s m r
           → Leads t (entriesDue s rest r n 0) start (due (behind s rest (withOwn s (entry own) r) (left - 1) (f .number))) (f .at)
       to-behind rest r b =
           then (v .got .leads rest r b) (combination-taken s rest (withOwn s (entry own) r) left some (own-marks s (entry own) r ∙ b .marks) read g)
 
-      pub number-wrong : x .good ≡ false → (rest : List Section) (r : Record) → Before s m r
+      pub number-wrong : x .good ≡ false → (rest : List Section) (r : Record) → ReadBefore s m r
           → Run mostMarks (entriesDue s rest r n 0) start (drop start t) (refused 10 (x .at))
       number-wrong w rest r b =
           then-run (to-behind rest r b)
           (behind-wrong s rest (withOwn s (entry own) r) (left - 1) (f .number) (v .sum-most) (v .sum-is r b) next w (field-inside read g))
 
-      pub reached-more : x .good ≡ true → Reached t s m n start (set own (f .number) (x .number)) (x .at) (f .number + 1) (left - 1) (sum + x .number)
+      pub reached-more : x .good ≡ true → EntriesReached t s m n start (set own (f .number) (x .number)) (x .at) (f .number + 1) (left - 1) (sum + x .number)
       reached-more w =
           let c = f .number in
           let y = x .number in
@@ -148,7 +148,7 @@ module _ {t : List ℕ} {s : Section} {m n start : ℕ} {own : List ℕ} {at low
           let c-own : c < length own = omega (arith, v .got .long) in
           let other : (z : ℕ) → (z ≡ c → ⊥) → entry (set own c y) z ≡ entry own z = set-other own c y c-own in
           let most = own-most s sum y (v .sum-most) (ny .0) (ny .2) in
-          let same : (r : Record) → Before s m r → added s (withOwn s (entry own) r) c y ≡ withOwn s (entry (set own c y)) r =
+          let same : (r : Record) → ReadBefore s m r → added s (withOwn s (entry own) r) c y ≡ withOwn s (entry (set own c y)) r =
           λ r b. own-added own c y c-own s r (omega (arith, ap (λ (j : ℕ). 2 ^ j) (b .marks))) (ny .0) in
           record {
             got = record {
@@ -172,17 +172,17 @@ module _ {t : List ℕ} {s : Section} {m n start : ℕ} {own : List ℕ} {at low
 
 -- a part that is refused at a place
 pub part-stopped : {t : List ℕ} {s : Section} {m start : ℕ} {from : List Section → Record → Next} {p : Part} (place : ℕ) → (p .good ≡ false) × (p .at ≡ place)
-    → ((rest : List Section) (r : Record) → Before s m r → Run mostMarks (from rest r) start (drop start t) (refused 10 place)) → PartRead t s m from start p
+    → ((rest : List Section) (r : Record) → ReadBefore s m r → Run mostMarks (from rest r) start (drop start t) (refused 10 place)) → PartRead t s m from start p
 part-stopped {p = p} place e w = bad {p = p} (e .0) (λ rest r b. rw (e .1) (w rest r b))
 
 -- a part behind what leads to it
 pub part-after : {t : List ℕ} {s : Section} {m at at₁ : ℕ} {from from₁ : List Section → Record → Next} {p : Part}
-    → ((rest : List Section) (r : Record) → Before s m r → Leads t (from rest r) at (from₁ rest r) at₁) → PartRead t s m from₁ at₁ p → PartRead t s m from at p
+    → ((rest : List Section) (r : Record) → ReadBefore s m r → Leads t (from rest r) at (from₁ rest r) at₁) → PartRead t s m from₁ at₁ p → PartRead t s m from at p
 part-after l (bad e w) = bad e (λ rest r b. then-run (l rest r b) (w rest r b))
 part-after l (good e g) = good e (record { inside = g .inside; long = g .long; most = g .most; leads = λ rest r b. then (l rest r b) (g .leads rest r b) })
 
 module _ {t : List ℕ} {s : Section} {m start : ℕ} {from : List Section → Record → Next} {p : Part} where
-  pub part-bad : PartRead t s m from start p → p .good ≡ false → (rest : List Section) (r : Record) → Before s m r
+  pub part-bad : PartRead t s m from start p → p .good ≡ false → (rest : List Section) (r : Record) → ReadBefore s m r
       → Run mostMarks (from rest r) start (drop start t) (refused 10 (p .at))
   part-bad (bad e w) g = w
   part-bad (good e w) g = clash e g

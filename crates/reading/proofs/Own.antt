@@ -20,7 +20,7 @@ use Rattle.stored.specs.Parts.{unset}
 use Rattle.stored.specs.declared.Section.{Section}
 use Rattle.stored.specs.declared.Section.the-variants.{Class, Held}
 use Rattle.stored.proofs.UpTo.{updated-here, updated-other}
-use Rattle.reading.specs.Parts.{least, mostOwn, withOwn, Before}
+use Rattle.reading.specs.Parts.{least, mostOwn, withOwn, ReadBefore}
 
 -- a value at c is that of a function which has it there and is as before elsewhere
 updated-is : {A : Type 0} (c : ℕ) (v : A) (f g : ℕ → A) → g c ≡ v → ((y : ℕ) → (y ≡ c → ⊥) → g y ≡ f y) → updated c v f ≡ g
@@ -33,7 +33,7 @@ pub own-marks : (s : Section) (f : ℕ → ℕ) (r : Record) → withOwn s f r .
 own-marks Class f r = refl
 own-marks Held f r = refl
 
-pub own-start : (s : Section) (f : ℕ → ℕ) {m : ℕ} {r : Record} → Before s m r → ((c : ℕ) → c < 2 ^ m → f c ≡ unset s) → withOwn s f r ≡ r
+pub own-start : (s : Section) (f : ℕ → ℕ) {m : ℕ} {r : Record} → ReadBefore s m r → ((c : ℕ) → c < 2 ^ m → f c ≡ unset s) → withOwn s f r ≡ r
 own-start Class f {m} {r} b h =
     ap (λ (g : ℕ → Bool). withClass g r)
     (fun-ext (λ c. below-or c (2 ^ r .marks)

@@ -23,11 +23,11 @@ use Rattle.stored.specs.Sections.{sections}
 use Rattle.stored.specs.Fields.{Bytes, due, marks, sectionsDue, judge, good, refused, Reading}
 use Rattle.stored.specs.Answers.{readOf, Reads}
 use Rattle.stored.proofs.IsForm.{is-form}
-use Rattle.reading.specs.Parts.{Leads, withOwn, Before}
+use Rattle.reading.specs.Parts.{Leads, withOwn, ReadBefore}
 use Rattle.reading.proofs.Offsets.{number-first, leads-field, faulty-at}
 
-pub refusal : (t : List ℕ) (n p : ℕ) {a : Read} → a ≡ readOf entries (refused n p) → Reading mostMarks t (refused n p) → Reads mostMarks entries t a
-refusal t n p e r = record { outcome = refused n p; run = r; is = e }
+pub refusal-read : (t : List ℕ) (n p : ℕ) {a : Read} → a ≡ readOf entries (refused n p) → Reading mostMarks t (refused n p) → Reads mostMarks entries t a
+refusal-read t n p e r = record { outcome = refused n p; run = r; is = e }
 
 module _ (t : List ℕ) (m : ℕ) (h : 0 < length t) (e : m ≡ getD t 0 0) where
   pub marks-taken : marksOk mostMarks m ≡ true → Leads t (due marks) 0 (sectionsDue sections (opened m)) 1
@@ -42,22 +42,22 @@ module _ (t : List ℕ) (m : ℕ) (h : 0 < length t) (e : m ≡ getD t 0 0) wher
 abbrev pub middle : ℕ → List ℕ → Record
 middle m outs = withOwn Class (entry outs) (opened m)
 
-abbrev pub whole : ℕ → List ℕ → List ℕ → Record
-whole m outs times = withOwn Held (entry times) (middle m outs)
+abbrev pub wholeRecord : ℕ → List ℕ → List ℕ → Record
+wholeRecord m outs times = withOwn Held (entry times) (middle m outs)
 
-pub before-class : (m : ℕ) → Before Class m (opened m)
+pub before-class : (m : ℕ) → ReadBefore Class m (opened m)
 before-class m = record { marks = refl; none = λ c. refl; nothing-held = sum-zero (2 ^ m) }
 
-pub before-held : (m : ℕ) (outs : List ℕ) → Before Held m (middle m outs)
+pub before-held : (m : ℕ) (outs : List ℕ) → ReadBefore Held m (middle m outs)
 before-held m outs = record { marks = refl; none = λ c. refl; nothing-held = sum-zero (2 ^ m) }
 
 module _ (m : ℕ) (outs times : List ℕ) where
-  times-told : (c : ℕ) → c < 2 ^ m → entry times c ≡ whole m outs times .times c
+  times-told : (c : ℕ) → c < 2 ^ m → entry times c ≡ wholeRecord m outs times .times c
   times-told c l = ap (λ (b : Bool). only b (entry times c)) (sym (lt-ltb c (2 ^ m) l))
 
   -- a count of its own is 1 outside the class, and 0 in it
   module _ (ones : (c : ℕ) → c < 2 ^ m → entry outs c ≤ 1) where
-    outs-told : (c : ℕ) → c < 2 ^ m → entry outs c ≡ outOf (whole m outs times .class) c
+    outs-told : (c : ℕ) → c < 2 ^ m → entry outs c ≡ outOf (wholeRecord m outs times .class) c
     outs-told c l =
         mark (λ x. x ≡ only (not (eqb x 0)) 1) (entry outs c) (omega (arith, ones c l)) refl refl
         ∙ ap (λ (b : Bool). only (not (b && eqb (entry outs c) 0)) 1) (sym (lt-ltb c (2 ^ m) l))
@@ -68,14 +68,14 @@ module _ (m : ℕ) (outs times : List ℕ) where
       sum = omega (arith, sumIn-all m (entry outs), combinations-fit m few, sum-le (2 ^ m) (entry outs) (λ c. 1) ones, sum-ones (2 ^ m));
     }
 
-    pub answered : {s : Sheet} → s ≡ sheetFrom entries m (entry outs) (entry times)
-        → _≡_ {A = Read} (record { number = 0; place = 0; sheet = s }) (readOf entries (good (whole m outs times)))
-    answered e =
+    pub read-answered : {s : Sheet} → s ≡ sheetFrom entries m (entry outs) (entry times)
+        → _≡_ {A = Read} (record { number = 0; place = 0; sheet = s }) (readOf entries (good (wholeRecord m outs times)))
+    read-answered e =
         ap (λ (y : Sheet). record { number = 0; place = 0; sheet = y })
-        (e ∙ sheet-same entries m (entry outs) (outOf (whole m outs times .class)) (entry times) (whole m outs times .times) outs-told times-told)
+        (e ∙ sheet-same entries m (entry outs) (outOf (wholeRecord m outs times .class)) (entry times) (wholeRecord m outs times .times) outs-told times-told)
 
-  pub times-addable : {t : List ℕ} → 2 ^ m ≤ length times → Bytes t → Reading mostMarks t (good (whole m outs times)) → Addable m times
+  pub times-addable : {t : List ℕ} → 2 ^ m ≤ length times → Bytes t → Reading mostMarks t (good (wholeRecord m outs times)) → Addable m times
   times-addable {t} long b r = record {
     long = long;
-    sum = omega (arith, sumIn-all m (entry times), sum-ext (2 ^ m) (entry times) (whole m outs times .times) times-told, is-form t b r .storable .most-held);
+    sum = omega (arith, sumIn-all m (entry times), sum-ext (2 ^ m) (entry times) (wholeRecord m outs times .times) times-told, is-form t b r .storable .most-held);
   }

@@ -47,7 +47,7 @@ withOwn Class f r = withClass (λ c. ltb c (2 ^ r .marks) && eqb (f c) 0) r
 withOwn Held f r = withTimes (λ c. only (ltb c (2 ^ r .marks)) (f c)) r
 
 -- what can be read before a section: nothing of it, and nothing held
-pub record Before (s : Section) (m : ℕ) (r : Record) : Type 0 where
+pub record ReadBefore (s : Section) (m : ℕ) (r : Record) : Type 0 where
   pub marks : r .marks ≡ m
   pub none : (c : ℕ) → standsIn s r c ≡ false
   pub nothing-held : heldIn r ≡ 0
@@ -57,11 +57,11 @@ pub record Got (t : List ℕ) (s : Section) (m : ℕ) (from to : List Section �
   pub inside : at ≤ length t
   pub long : 2 ^ m ≤ length own
   pub most : (c : ℕ) → c < 2 ^ m → entry own c ≤ mostOwn s
-  pub leads : (rest : List Section) (r : Record) → Before s m r → Leads t (from rest r) start (to rest (withOwn s (entry own) r)) at
+  pub leads : (rest : List Section) (r : Record) → ReadBefore s m r → Leads t (from rest r) start (to rest (withOwn s (entry own) r)) at
 
 -- a part of the form: refused with 10 and the place, or read
 pub data PartRead (t : List ℕ) (s : Section) (m : ℕ) (from : List Section → Record → Next) (start : ℕ) : Part → Type 0 where
-  bad : {p : Part} → p .good ≡ false → ((rest : List Section) (r : Record) → Before s m r → Run mostMarks (from rest r) start (drop start t) (refused 10 (p .at)))
+  bad : {p : Part} → p .good ≡ false → ((rest : List Section) (r : Record) → ReadBefore s m r → Run mostMarks (from rest r) start (drop start t) (refused 10 (p .at)))
       → PartRead t s m from start p
   good : {p : Part} → p .good ≡ true → Got t s m from sectionsDue start (p .own) (p .at) → PartRead t s m from start p
 

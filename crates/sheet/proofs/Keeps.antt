@@ -28,7 +28,7 @@ use Rattle.sheet.specs.Parts.{Accepted}
 use Rattle.sheet.proofs.Answers.{open-done, open-refused}
 use Rattle.sheet.proofs.Kept.{class-sound, times-sound}
 use Rattle.sheet.proofs.Alters.{by-answer, table-shifted}
-use Rattle.sheet.proofs.Tests.{Changes, Amounts, changes, amounts, accepts, boxes-fit, amount-fits}
+use Rattle.sheet.proofs.Tests.{ChangePassed, AmountPassed, changes, amounts, accepts, boxes-fit, amount-fits}
 
 module _ (s : Sheet) (long : Long entries s) where
   -- each table has an entry for each box
@@ -45,7 +45,7 @@ module _ (s : Sheet) (long : Long entries s) where
   most-after true d x y e l h = omega (arith, leb-true (x + d) mostHeld e)
   most-after false d x y e l h = omega arith
 
-  module _ (into : Bool) (c : ℕ) (w : Changes mostMarks into (s .marks) (s .outside) c) (a : Accepted s (classMove into c)) where
+  module _ (into : Bool) (c : ℕ) (w : ChangePassed mostMarks into (s .marks) (s .outside) c) (a : Accepted s (classMove into c)) where
     class-moved : ClassSound (s .marks) (s .outside) → ClassSound (s .marks) (movedSheet (classMove into c) s .outside)
     class-moved sound =
         let v = table-shifted s (classMove into c) a outside-counts in
@@ -58,7 +58,7 @@ module _ (s : Sheet) (long : Long entries s) where
               (λ n. omega (arith, own-moved .others x l n, sound .ones x l));
         }
 
-  module _ (more : Bool) (c d : ℕ) (w : Amounts mostMarks more (s .marks) (s .held) c d) (a : Accepted s (amountMove more c d)) where
+  module _ (more : Bool) (c d : ℕ) (w : AmountPassed mostMarks more (s .marks) (s .held) c d) (a : Accepted s (amountMove more c d)) where
     times-moved : TimesSound (s .marks) (s .held) → TimesSound (s .marks) (movedSheet (amountMove more c d) s .held)
     times-moved sound =
         let v = table-shifted s (amountMove more c d) a held-seconds in

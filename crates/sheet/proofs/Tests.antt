@@ -73,14 +73,14 @@ module _ (most : ℕ) (into : Bool) (m : ℕ) (t : List ℕ) (c : ℕ) where
           change-0 e = rw (marks, lt-leb (2 ^ m) c low, le-ltb 1 (own m t c) one, other, e)
 
 -- an accepted class change
-pub record Changes (most : ℕ) (into : Bool) (m : ℕ) (t : List ℕ) (c : ℕ) : Type 0 where
+pub record ChangePassed (most : ℕ) (into : Bool) (m : ℕ) (t : List ℕ) (c : ℕ) : Type 0 where
   pub marks : marksOk most m ≡ true
   pub low : c < 2 ^ m
   pub one : own m t c ≤ 1
   pub other : eqb (own m t c) (standing into) ≡ false
   pub fits : touched m c (fitsClass into m t) ≡ true
 
-pub changes : (most : ℕ) (into : Bool) (m : ℕ) (t : List ℕ) (c : ℕ) → changeNo most into m t c ≡ 0 → Changes most into m t c
+pub changes : (most : ℕ) (into : Bool) (m : ℕ) (t : List ℕ) (c : ℕ) → changeNo most into m t c ≡ 0 → ChangePassed most into m t c
 changes most into m t c z =
     if (marksOk most m)
     (λ marks. below-or c (2 ^ m)
@@ -121,7 +121,7 @@ module _ (most : ℕ) (more : Bool) (m : ℕ) (t : List ℕ) (c d : ℕ) where
         amount-0 e = rw (marks, lt-leb (2 ^ m) c low, amount, e)
 
 -- an accepted receipt or withdrawal
-pub record Amounts (most : ℕ) (more : Bool) (m : ℕ) (t : List ℕ) (c d : ℕ) : Type 0 where
+pub record AmountPassed (most : ℕ) (more : Bool) (m : ℕ) (t : List ℕ) (c d : ℕ) : Type 0 where
   pub marks : marksOk most m ≡ true
   pub low : c < 2 ^ m
   pub amount : amountOk d ≡ true
@@ -131,7 +131,7 @@ eight-or-nine : (more : Bool) → _≡_ {A = ℕ} (cond more 8 9) 0 → ⊥
 eight-or-nine true e = omega arith
 eight-or-nine false e = omega arith
 
-pub amounts : (most : ℕ) (more : Bool) (m : ℕ) (t : List ℕ) (c d : ℕ) → amountNo most more m t c d ≡ 0 → Amounts most more m t c d
+pub amounts : (most : ℕ) (more : Bool) (m : ℕ) (t : List ℕ) (c d : ℕ) → amountNo most more m t c d ≡ 0 → AmountPassed most more m t c d
 amounts most more m t c d z =
     if (marksOk most m)
     (λ marks. below-or c (2 ^ m)
@@ -199,7 +199,7 @@ amount-more false d l = l
 
 -- an accepted call makes an accepted move
 
-module _ (s : Sheet) (into : Bool) (c : ℕ) (w : Changes mostMarks into (s .marks) (s .outside) c) where
+module _ (s : Sheet) (into : Bool) (c : ℕ) (w : ChangePassed mostMarks into (s .marks) (s .outside) c) where
   class-bear : (t : Table) → AllBear (s .marks) c (shiftIn t (classMove into c)) (kept t s)
   class-bear outside-counts = change-bears (s .marks) c into (s .outside) (marks-most mostMarks _ (w .marks)) (w .fits)
   class-bear held-seconds = λ b h. tt
@@ -211,7 +211,7 @@ module _ (s : Sheet) (into : Bool) (c : ℕ) (w : Changes mostMarks into (s .mar
   class-accepted : Accepted s (classMove into c)
   class-accepted = record { marks = w .marks; low = w .low; bear = class-bear; some = class-shifts }
 
-module _ (s : Sheet) (more : Bool) (c d : ℕ) (w : Amounts mostMarks more (s .marks) (s .held) c d) where
+module _ (s : Sheet) (more : Bool) (c d : ℕ) (w : AmountPassed mostMarks more (s .marks) (s .held) c d) where
   amount-bear : (t : Table) → AllBear (s .marks) c (shiftIn t (amountMove more c d)) (kept t s)
   amount-bear outside-counts = λ b h. tt
   amount-bear held-seconds = λ b h. amount-bears more d (entry (s .held) b) (amount-fits (s .marks) c more d (s .held) (w .fits) b h)

@@ -43,7 +43,7 @@ touched-ext m c p q h =
     (λ e. if (touched m c p) (λ y. clash (touched-yes m c q (λ b w. sym (h b w) ∙ touched-at m c p y b w)) e) (λ n. n ∙ sym e))
 
 -- the box of turn k has as many combinations as k has sets of marks
-pub judged : (m c k : ℕ) (s : Shift) (t : List ℕ) (most each b top : ℕ) (r : Bool) → k < 2 ^ m → b ≡ through m c k → top ≡ most + each * 2 ^ ones k
+pub turn-judged : (m c k : ℕ) (s : Shift) (t : List ℕ) (most each b top : ℕ) (r : Bool) → k < 2 ^ m → b ≡ through m c k → top ≡ most + each * 2 ^ ones k
     → r ≡ fitsShifted s top (entry t b) → fitsMoved m s t most each (through m c k) ≡ r
-judged m c k s t most each b top r l e h j =
+turn-judged m c k s t most each b top r l e h j =
     ap₂ (λ (x f : ℕ). fitsShifted s (most + each * 2 ^ f) (entry t x)) (sym e) (freeCount-through m c k l) ∙ ap (λ (x : ℕ). fitsShifted s x (entry t b)) (sym h) ∙ sym j

@@ -8,7 +8,7 @@ use Rattle.times.specs.declared.Time.{Time}
 use Rattle.times.specs.declared.Time.the-variants.{Value, Fault}
 use Rattle.times.specs.Texts.{After, minutes, Behind}
 use Rattle.times.specs.Places.{ReadsAs, value}
-use Rattle.times.specs.Parts.{moved}
+use Rattle.times.specs.Parts.{placedOn}
 use Rattle.times.proofs.Places.{Open, handed, ends, stops}
 
 -- a digit up to a top
@@ -79,7 +79,7 @@ module _ (n : ℕ) where
 
   -- both digits stand, and the rest is handed on
   pub behind-two : (l : List ℕ) (x : ℕ) {r : Time} → 1 < length l → UpTo 53 (getD l 0 0) → UpTo 57 (getD l 1 0)
-      → x ≡ (getD l 0 0 - 48) * 10 + (getD l 1 0 - 48) → ReadsAs (After n x) (drop 2 l) r → ReadsAs (Behind n) l (moved 2 r)
+      → x ≡ (getD l 0 0 - 48) * 10 + (getD l 1 0 - 48) → ReadsAs (After n x) (drop 2 l) r → ReadsAs (Behind n) l (placedOn 2 r)
   behind-two [] x h e f q k = absurd (omega arith)
   behind-two (a ∷ []) x h e f q k = absurd (omega arith)
   behind-two (a ∷ b ∷ l) x {r} h e f q k =

@@ -13,7 +13,7 @@ use Rattle.times.specs.declared.Time.the-variants.{Fault}
 use Rattle.times.specs.declared.Lead.the-variants.{Colon, Stop}
 use Rattle.times.specs.Texts.{Digit, Digits, digitsValue, Numeral, minutes, Behind, Readable}
 use Rattle.times.specs.Places.{ReadsAs}
-use Rattle.times.specs.Parts.{Follows, Led, colon, stop, moved}
+use Rattle.times.specs.Parts.{Follows, Led, colon, stop, placedOn}
 use Rattle.times.proofs.Places.{Open, ends, stops, handed}
 
 digits-append : (a b : List ℕ) → Digits a → Digits b → Digits (a ++ b)
@@ -215,11 +215,11 @@ pub led-small : {t : List ℕ} {n k : ℕ} → Led t (Colon n k) → (n ≤ 599)
 led-small (colon b z e u h q) = (h, omega (arith, q, ap length e, length-append (b ++ 58 ∷ []) z, length-append b (58 ∷ [])))
 
 -- the part behind the colon is handed on
-pub led-on : (t : List ℕ) (n k : ℕ) {r : Time} → Led t (Colon n k) → ReadsAs (Behind n) (drop k t) r → ReadsAs Readable t (moved k r)
+pub led-on : (t : List ℕ) (n k : ℕ) {r : Time} → Led t (Colon n k) → ReadsAs (Behind n) (drop k t) r → ReadsAs Readable t (placedOn k r)
 led-on t n k {r} (colon b z e u h q) x =
     let len : length (b ++ 58 ∷ []) ≡ k = length-append b (58 ∷ []) ∙ sym q in
     let d : drop k t ≡ z = ap (drop k) e ∙ drop-at (b ++ 58 ∷ []) z k len in
-    subst (λ (y : List ℕ). ReadsAs Readable y (moved k r)) (sym e)
-    (subst (λ (j : ℕ). ReadsAs Readable ((b ++ 58 ∷ []) ++ z) (moved j r)) len
+    subst (λ (y : List ℕ). ReadsAs Readable y (placedOn k r)) (sym e)
+    (subst (λ (j : ℕ). ReadsAs Readable ((b ++ 58 ∷ []) ++ z) (placedOn j r)) len
     (handed Readable (Behind n) (b ++ 58 ∷ []) (to-colon b n u h) (from-colon b n u h)
     (subst (λ (y : List ℕ). ReadsAs (Behind n) y r) d x)))

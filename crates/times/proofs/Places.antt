@@ -10,7 +10,7 @@ use lib.Seq.{take-all}
 use Rattle.times.specs.declared.Time.{Time}
 use Rattle.times.specs.declared.Time.the-variants.{Value, Fault}
 use Rattle.times.specs.Places.{Common, Place, ReadsAs, value, fault}
-use Rattle.times.specs.Parts.{placeOf, moved}
+use Rattle.times.specs.Parts.{placeOf, placedOn}
 
 module _ (L : List ℕ → ℕ → Type 0) where
   -- some readable text begins so
@@ -93,7 +93,7 @@ module _ (L K : List ℕ → ℕ → Type 0) (f : List ℕ) (to : (s : List ℕ)
       }
 
   -- the part behind f is handed on
-  pub handed : {s : List ℕ} {r : Time} → ReadsAs K s r → ReadsAs L (f ++ s) (moved (length f) r)
+  pub handed : {s : List ℕ} {r : Time} → ReadsAs K s r → ReadsAs L (f ++ s) (placedOn (length f) r)
   handed {s} (value {v} k) = value (to s v k)
   handed {s} (fault n p) = fault (λ v l. n v (from s v l)) (place-behind p)
 

@@ -28,6 +28,6 @@ placeOf (Value v) = 0
 placeOf (Fault p) = p
 
 -- what a text reads as whose part behind the first k bytes reads so
-abbrev pub moved : ℕ → Time → Time
-moved k (Value v) = Value v
-moved k (Fault p) = Fault (k + p)
+abbrev pub placedOn : ℕ → Time → Time
+placedOn k (Value v) = Value v
+placedOn k (Fault p) = Fault (k + p)

@@ -6,7 +6,7 @@ ghost use Rattle.ground.specs.Decides.{Decides};
 ghost use Rattle.times.specs.Texts.{After, Behind, Readable};
 ghost use Rattle.times.specs.Places.{ReadsAs};
 ghost use Rattle.times.specs.Answers.{Answered};
-ghost use Rattle.times.specs.Parts.{Follows, Led, placeOf, moved};
+ghost use Rattle.times.specs.Parts.{Follows, Led, placeOf, placedOn};
 
 // The seconds, or the place: the length of the longest beginning that is also the beginning of some readable text.
 pub enum Time {
@@ -99,9 +99,9 @@ fn place_of(t: Time) -> usize
 }
 
 // What the text reads as, where the part behind its first k bytes reads as t.
-fn moved(k: usize, t: Time) -> Time
+fn placed_on(k: usize, t: Time) -> Time
     requires { ⌜ k + placeOf t < 2 ^ 64 ⌝ }
-    ensures { λ r. ⌜ r ≡ moved k t ⌝ }
+    ensures { λ r. ⌜ r ≡ placedOn k t ⌝ }
 {
     match t {
         Time::Value(v) => Time::Value(v),
@@ -140,7 +140,7 @@ fn behind_colon(part: &[u8], n: u64) -> Time
         return Time::Fault(1);
     }
     let x = grown(grown(0, tens), ones);
-    moved(2, after(&part[2..], n, x))
+    placed_on(2, after(&part[2..], n, x))
 }
 
 // ReadsAs any text.
@@ -150,7 +150,7 @@ pub fn read(text: &[u8]) -> Time
     let lead = before_colon(text);
     match lead {
         Lead::Stop(p) => Time::Fault(p),
-        Lead::Colon(n, k) => moved(k, behind_colon(&text[k..], n)),
+        Lead::Colon(n, k) => placed_on(k, behind_colon(&text[k..], n)),
     }
 }
 

@@ -36,15 +36,6 @@ room-requires c κs = tt
 loop-holds : tie.Need-loop-holds Inv-loop μ-loop
 loop-holds c = (omega arith, c .room .ensures, λ s at. took-none at)
 
-sub-feed : tie.Need-sub-feed Inv-loop μ-loop
-sub-feed c = omega arith
-
-part-feed-start : tie.Need-part-feed-start Inv-loop μ-loop
-part-feed-start c = omega arith
-
-part-feed-end : tie.Need-part-feed-end Inv-loop μ-loop
-part-feed-end c = omega arith
-
 slice-aggregate-feed : tie.Need-slice-aggregate-feed Inv-loop μ-loop
 slice-aggregate-feed c = c .before .before .before .loop .inv .1
 
@@ -60,11 +51,11 @@ feed-requires c κs =
 array-share-prefix-out : tie.Need-array-share-prefix-out Inv-loop μ-loop
 array-share-prefix-out c = wrote-front (fed (c .before .before) .fed .laid) .1
 
-slice-aggregate-write-all : tie.Need-slice-aggregate-write-all Inv-loop μ-loop
-slice-aggregate-write-all c = sym (length-take-le _ _ (wrote-front (fed (c .before .before .before) .fed .laid) .1))
+slice-aggregate-send : tie.Need-slice-aggregate-send Inv-loop μ-loop
+slice-aggregate-send c = sym (length-take-le _ _ (wrote-front (fed (c .before .before .before) .fed .laid) .1))
 
-write-all-requires : tie.Need-write-all-requires Inv-loop μ-loop
-write-all-requires c κs = tt
+send-requires : tie.Need-send-requires Inv-loop μ-loop
+send-requires c κs = tt
 
 returns : tie.Need-returns Inv-loop μ-loop
 returns c = λ e. absurd (true≢false e)
@@ -97,25 +88,7 @@ returns-3 c =
     subst (λ (x : List ℕ). Took t x (l .desk)) (take-all (l .at) (s .args .piece .now) (omega arith)) (l .inv .2 t at)
 
 pub serve-spec : {M : Type 1} → statement M
-serve-spec =
-    tie.close
-    (tie.spec
-    Inv-loop
-    μ-loop
-    room-requires
-    loop-holds
-    sub-feed
-    part-feed-start
-    part-feed-end
-    slice-aggregate-feed
-    feed-requires
-    array-share-prefix-out
-    slice-aggregate-write-all
-    write-all-requires
-    returns
-    is-over-requires
-    returns-2
-    add-at
-    loop-less
-    loop-again
-    returns-3)
+serve-spec = tie.close (tie.spec
+    Inv-loop μ-loop room-requires loop-holds (λ c. omega arith) (λ c. omega arith) (λ c. omega arith)
+    slice-aggregate-feed feed-requires array-share-prefix-out slice-aggregate-send send-requires returns
+    is-over-requires returns-2 add-at loop-less loop-again returns-3)

@@ -20,20 +20,8 @@ loop-holds c = so-far-none _ _
 returns : tie.Need-returns Inv-loop μ-loop
 returns c = let a = c .before .before .before .args in decided-no refl (λ b. omega (arith, begun-long (a .verb .now) (a .line .now) b))
 
-shared-slice-read-if2 : tie.Need-shared-slice-read-if2 Inv-loop μ-loop
-shared-slice-read-if2 c = omega arith
-
-shared-slice-read-if2-2 : tie.Need-shared-slice-read-if2-2 Inv-loop μ-loop
-shared-slice-read-if2-2 c = omega arith
-
 returns-2 : tie.Need-returns-2 Inv-loop μ-loop
 returns-2 c = decided-no refl (λ b. c .if2 .taken (begun-byte (c .before .before .before .before .before .before .args .verb .now) (c .before .before .before .before .before .before .args .line .now) (c .before .before .before .before .before .loop .i) b (omega arith)))
-
-add-i : tie.Need-add-i Inv-loop μ-loop
-add-i c = omega arith
-
-loop-less : tie.Need-loop-less Inv-loop μ-loop
-loop-less c = omega arith
 
 loop-again : tie.Need-loop-again Inv-loop μ-loop
 loop-again c = so-far-more _ _ _ (c .before .before .before .before .before .loop .inv) (omega arith) (omega arith) (c .if2 .left)
@@ -42,17 +30,6 @@ returns-3 : tie.Need-returns-3 Inv-loop μ-loop
 returns-3 c = decided-yes refl (so-far-all _ _ _ (c .before .loop .inv) (omega arith))
 
 pub begins-spec : {M : Type 1} → statement M
-begins-spec =
-    tie.close
-    (tie.spec
-    Inv-loop
-    μ-loop
-    loop-holds
-    returns
-    shared-slice-read-if2
-    shared-slice-read-if2-2
-    returns-2
-    add-i
-    loop-less
-    loop-again
-    returns-3)
+begins-spec = tie.close (tie.spec
+    Inv-loop μ-loop loop-holds returns (λ c. omega arith) (λ c. omega arith) returns-2 (λ c. omega arith)
+    (λ c. omega arith) loop-again returns-3)

@@ -30,29 +30,11 @@ unbegun c receive = denied (c .before .before .before .before .before .before .b
 unbegun c withdraw = denied (c .before .before .before .before .begins4 .ensures) (c .before .before .before .if4 .left)
 unbegun c end = denied (c .before .begins5 .ensures) (c .if5 .left)
 
-slice-aggregate-begins : tie.Need-slice-aggregate-begins
-slice-aggregate-begins c = search needs
-
-begins-requires : tie.Need-begins-requires
-begins-requires c κs = search needs
-
 sub-read-pattern : tie.Need-sub-read-pattern
 sub-read-pattern c = begun-long (ascii "in ") _ (begun1 c)
 
 part-read-pattern-start : tie.Need-part-read-pattern-start
 part-read-pattern-start c = begun-long (ascii "in ") _ (begun1 c)
-
-part-read-pattern-end : tie.Need-part-read-pattern-end
-part-read-pattern-end c = search needs
-
-read-pattern-requires : tie.Need-read-pattern-requires
-read-pattern-requires c κs = search needs
-
-enum-known-p : tie.Need-enum-known-p
-enum-known-p c = search needs
-
-enum-told : tie.Need-enum-told
-enum-told c = search needs
 
 returns : tie.Need-returns
 returns c = asked-unsaid enter _ (behind (ascii "in ") _ 3 (begun1 (c .before .before .before .before)) refl) (enter-unsaid (rw (c .enum-told .given .1) at (c .before .before .read-pattern .ensures)))
@@ -60,29 +42,11 @@ returns c = asked-unsaid enter _ (behind (ascii "in ") _ 3 (begun1 (c .before .b
 returns-2 : tie.Need-returns-2
 returns-2 c = asked-said enter (behind (ascii "in ") _ 3 (begun1 (c .before .before .before .before .before)) refl) (enters (rw (c .before .p .given .1) at (c .before .before .before .read-pattern .ensures)))
 
-slice-aggregate-begins-2 : tie.Need-slice-aggregate-begins-2
-slice-aggregate-begins-2 c = search needs
-
-begins-requires-2 : tie.Need-begins-requires-2
-begins-requires-2 c κs = search needs
-
 sub-read-pattern-2 : tie.Need-sub-read-pattern-2
 sub-read-pattern-2 c = begun-long (ascii "out ") _ (begun2 c)
 
 part-read-pattern-start-2 : tie.Need-part-read-pattern-start-2
 part-read-pattern-start-2 c = begun-long (ascii "out ") _ (begun2 c)
-
-part-read-pattern-end-2 : tie.Need-part-read-pattern-end-2
-part-read-pattern-end-2 c = search needs
-
-read-pattern-requires-2 : tie.Need-read-pattern-requires-2
-read-pattern-requires-2 c κs = search needs
-
-enum-known-p-2 : tie.Need-enum-known-p-2
-enum-known-p-2 c = search needs
-
-enum-told-2 : tie.Need-enum-told-2
-enum-told-2 c = search needs
 
 returns-3 : tie.Need-returns-3
 returns-3 c = asked-unsaid leave _ (behind (ascii "out ") _ 4 (begun2 (c .before .before .before .before)) refl) (leave-unsaid (rw (c .enum-told2 .given .1) at (c .before .before .read-pattern2 .ensures)))
@@ -90,29 +54,11 @@ returns-3 c = asked-unsaid leave _ (behind (ascii "out ") _ 4 (begun2 (c .before
 returns-4 : tie.Need-returns-4
 returns-4 c = asked-said leave (behind (ascii "out ") _ 4 (begun2 (c .before .before .before .before .before)) refl) (leaves (rw (c .before .p2 .given .1) at (c .before .before .before .read-pattern2 .ensures)))
 
-slice-aggregate-begins-3 : tie.Need-slice-aggregate-begins-3
-slice-aggregate-begins-3 c = search needs
-
-begins-requires-3 : tie.Need-begins-requires-3
-begins-requires-3 c κs = search needs
-
 sub-read-amount : tie.Need-sub-read-amount
 sub-read-amount c = begun-long (ascii "recv ") _ (begun3 c)
 
 part-read-amount-start : tie.Need-part-read-amount-start
 part-read-amount-start c = begun-long (ascii "recv ") _ (begun3 c)
-
-part-read-amount-end : tie.Need-part-read-amount-end
-part-read-amount-end c = search needs
-
-read-amount-requires : tie.Need-read-amount-requires
-read-amount-requires c κs = search needs
-
-enum-known-a : tie.Need-enum-known-a
-enum-known-a c = search needs
-
-enum-told-3 : tie.Need-enum-told-3
-enum-told-3 c = search needs
 
 returns-5 : tie.Need-returns-5
 returns-5 c = asked-unsaid receive _ (behind (ascii "recv ") _ 5 (begun3 (c .before .before .before .before)) refl) (receive-unsaid (rw (c .enum-told3 .given .1) at (c .before .before .read-amount .ensures)))
@@ -120,41 +66,17 @@ returns-5 c = asked-unsaid receive _ (behind (ascii "recv ") _ 5 (begun3 (c .bef
 returns-6 : tie.Need-returns-6
 returns-6 c = asked-said receive (behind (ascii "recv ") _ 5 (begun3 (c .before .before .before .before .before)) refl) (receives (rw (c .before .a .given .1) at (c .before .before .before .read-amount .ensures)))
 
-slice-aggregate-begins-4 : tie.Need-slice-aggregate-begins-4
-slice-aggregate-begins-4 c = search needs
-
-begins-requires-4 : tie.Need-begins-requires-4
-begins-requires-4 c κs = search needs
-
 sub-read-amount-2 : tie.Need-sub-read-amount-2
 sub-read-amount-2 c = begun-long (ascii "gone ") _ (begun4 c)
 
 part-read-amount-start-2 : tie.Need-part-read-amount-start-2
 part-read-amount-start-2 c = begun-long (ascii "gone ") _ (begun4 c)
 
-part-read-amount-end-2 : tie.Need-part-read-amount-end-2
-part-read-amount-end-2 c = search needs
-
-read-amount-requires-2 : tie.Need-read-amount-requires-2
-read-amount-requires-2 c κs = search needs
-
-enum-known-a-2 : tie.Need-enum-known-a-2
-enum-known-a-2 c = search needs
-
-enum-told-4 : tie.Need-enum-told-4
-enum-told-4 c = search needs
-
 returns-7 : tie.Need-returns-7
 returns-7 c = asked-unsaid withdraw _ (behind (ascii "gone ") _ 5 (begun4 (c .before .before .before .before)) refl) (withdraw-unsaid (rw (c .enum-told4 .given .1) at (c .before .before .read-amount2 .ensures)))
 
 returns-8 : tie.Need-returns-8
 returns-8 c = asked-said withdraw (behind (ascii "gone ") _ 5 (begun4 (c .before .before .before .before .before)) refl) (withdraws (rw (c .before .a2 .given .1) at (c .before .before .before .read-amount2 .ensures)))
-
-slice-aggregate-begins-5 : tie.Need-slice-aggregate-begins-5
-slice-aggregate-begins-5 c = search needs
-
-begins-requires-5 : tie.Need-begins-requires-5
-begins-requires-5 c κs = search needs
 
 returns-9 : tie.Need-returns-9
 returns-9 c = asked-end (begun5 (c .before)) (c .if6 .taken)
@@ -166,51 +88,12 @@ returns-11 : tie.Need-returns-11
 returns-11 c = asked-nothing _ _ (unbegun c)
 
 pub read-spec : {M : Type 1} → statement M
-read-spec =
-    tie.close
-    (tie.spec
-    slice-aggregate-begins
-    begins-requires
-    sub-read-pattern
-    part-read-pattern-start
-    part-read-pattern-end
-    read-pattern-requires
-    enum-known-p
-    enum-told
-    returns
-    returns-2
-    slice-aggregate-begins-2
-    begins-requires-2
-    sub-read-pattern-2
-    part-read-pattern-start-2
-    part-read-pattern-end-2
-    read-pattern-requires-2
-    enum-known-p-2
-    enum-told-2
-    returns-3
-    returns-4
-    slice-aggregate-begins-3
-    begins-requires-3
-    sub-read-amount
-    part-read-amount-start
-    part-read-amount-end
-    read-amount-requires
-    enum-known-a
-    enum-told-3
-    returns-5
-    returns-6
-    slice-aggregate-begins-4
-    begins-requires-4
-    sub-read-amount-2
-    part-read-amount-start-2
-    part-read-amount-end-2
-    read-amount-requires-2
-    enum-known-a-2
-    enum-told-4
-    returns-7
-    returns-8
-    slice-aggregate-begins-5
-    begins-requires-5
-    returns-9
-    returns-10
-    returns-11)
+read-spec = tie.close (tie.spec
+    (λ c. search needs) (λ c κs. search needs) sub-read-pattern part-read-pattern-start (λ c. search needs)
+    (λ c κs. search needs) (λ c. search needs) (λ c. search needs) returns returns-2 (λ c. search needs)
+    (λ c κs. search needs) sub-read-pattern-2 part-read-pattern-start-2 (λ c. search needs) (λ c κs. search needs)
+    (λ c. search needs) (λ c. search needs) returns-3 returns-4 (λ c. search needs) (λ c κs. search needs)
+    sub-read-amount part-read-amount-start (λ c. search needs) (λ c κs. search needs) (λ c. search needs)
+    (λ c. search needs) returns-5 returns-6 (λ c. search needs) (λ c κs. search needs) sub-read-amount-2
+    part-read-amount-start-2 (λ c. search needs) (λ c κs. search needs) (λ c. search needs) (λ c. search needs)
+    returns-7 returns-8 (λ c. search needs) (λ c κs. search needs) returns-9 returns-10 returns-11)

@@ -7,29 +7,17 @@ use Rattle.ground.proofs.Cases.{denied}
 use Rattle.lines.proofs.read_marks.Statement.{statement}
 use Rattle.lines.proofs.read_marks.Tie as tie
 
-slice-aggregate-begins : tie.Need-slice-aggregate-begins
-slice-aggregate-begins c = search needs
-
-begins-requires : tie.Need-begins-requires
-begins-requires c κs = search needs
-
 returns : tie.Need-returns
 returns c = opens-other _ (denied (c .before .begins .ensures) (not-true _ (c .if1 .taken)))
 
 returns-2 : tie.Need-returns-2
 returns-2 c = opens-long _ (c .if2 .taken)
 
-shared-slice-read-c : tie.Need-shared-slice-read-c
-shared-slice-read-c c = omega arith
-
 returns-3 : tie.Need-returns-3
 returns-3 c = opens-byte _ (λ w. omega (arith, w .0))
 
 returns-4 : tie.Need-returns-4
 returns-4 c = opens-byte _ (λ w. omega (arith, w .1))
-
-byte-requires : tie.Need-byte-requires
-byte-requires c κs = search needs
 
 sub-t11 : tie.Need-sub-t11
 sub-t11 c = omega (arith, c .byte .ensures .0)
@@ -38,16 +26,6 @@ returns-5 : tie.Need-returns-5
 returns-5 c = opens-marks _ _ (c .before .before .before .before .before .before .begins .ensures .yes (not-false _ (c .before .before .before .before .before .if1 .left))) (c .before .before .before .before .if2 .left) (omega (arith, c .byte .ensures .0)) (omega (arith, c .byte .ensures .0))
 
 pub read-marks-spec : {M : Type 1} → statement M
-read-marks-spec =
-    tie.close
-    (tie.spec
-    slice-aggregate-begins
-    begins-requires
-    returns
-    returns-2
-    shared-slice-read-c
-    returns-3
-    returns-4
-    byte-requires
-    sub-t11
-    returns-5)
+read-marks-spec = tie.close (tie.spec
+    (λ c. search needs) (λ c κs. search needs) returns returns-2 (λ c. omega arith) returns-3 returns-4
+    (λ c κs. search needs) sub-t11 returns-5)

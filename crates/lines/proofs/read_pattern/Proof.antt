@@ -20,12 +20,6 @@ returns c = pattern-long _ _ (c .if1 .taken)
 loop-holds : tie.Need-loop-holds Inv-loop μ-loop
 loop-holds c = (c .if1 .left, omega arith, tail-none _ _ (c .if1 .left))
 
-sub-c : tie.Need-sub-c Inv-loop μ-loop
-sub-c c = omega arith
-
-sub-c-2 : tie.Need-sub-c-2 Inv-loop μ-loop
-sub-c-2 c = omega arith
-
 shared-slice-read-c : tie.Need-shared-slice-read-c Inv-loop μ-loop
 shared-slice-read-c c = omega (arith, c .before .before .loop .inv .0)
 
@@ -35,20 +29,11 @@ returns-2 c = let a = c .before .before .before .before .before .before .args in
 returns-3 : tie.Need-returns-3 Inv-loop μ-loop
 returns-3 c = let a = c .before .before .before .before .before .before .before .args in pattern-other _ _ (a .m - 1 - c .before .before .before .before .loop .i) (omega arith) (λ w. omega (arith, w .1))
 
-byte-requires : tie.Need-byte-requires Inv-loop μ-loop
-byte-requires c κs = search needs
-
 sub-with-mark : tie.Need-sub-with-mark Inv-loop μ-loop
 sub-with-mark c = omega (arith, c .byte .ensures .0)
 
 with-mark-requires : tie.Need-with-mark-requires Inv-loop μ-loop
 with-mark-requires c κs = let l = c .before .before .before .before .before .loop in (omega arith, l .inv .2 .small, omega (arith, c .byte .ensures .0))
-
-add-i : tie.Need-add-i Inv-loop μ-loop
-add-i c = omega arith
-
-loop-less : tie.Need-loop-less Inv-loop μ-loop
-loop-less c = omega arith
 
 loop-again : tie.Need-loop-again Inv-loop μ-loop
 loop-again c =
@@ -68,22 +53,6 @@ returns-4 c =
     pattern-read (a .m) (a .part .now) (l .n) (subst (λ (x : ℕ). Tail (a .part .now) (a .m) x (l .n)) e (l .inv .2))
 
 pub read-pattern-spec : {M : Type 1} → statement M
-read-pattern-spec =
-    tie.close
-    (tie.spec
-    Inv-loop
-    μ-loop
-    returns
-    loop-holds
-    sub-c
-    sub-c-2
-    shared-slice-read-c
-    returns-2
-    returns-3
-    byte-requires
-    sub-with-mark
-    with-mark-requires
-    add-i
-    loop-less
-    loop-again
-    returns-4)
+read-pattern-spec = tie.close (tie.spec
+    Inv-loop μ-loop returns loop-holds (λ c. omega arith) (λ c. omega arith) shared-slice-read-c returns-2 returns-3
+    (λ c κs. search needs) sub-with-mark with-mark-requires (λ c. omega arith) (λ c. omega arith) loop-again returns-4)

@@ -16,7 +16,7 @@ use Rattle.stored.specs.declared.Section.the-variants.{Class, Held}
 use Rattle.reading.specs.Parts.{Leads, Got}
 use Rattle.reading.proofs.Offsets.{then, then-run, early-at, left-over, all-read}
 use Rattle.reading.proofs.Entries.{part-bad, part-good}
-use Rattle.reading.proofs.Whole.{refusal, marks-taken, marks-wrong, middle, whole, before-class, before-held, outs-addable, times-addable, answered}
+use Rattle.reading.proofs.Whole.{refusal-read, marks-taken, marks-wrong, middle, wholeRecord, before-class, before-held, outs-addable, times-addable, read-answered}
 use Rattle.reading.proofs.read.Statement.{statement}
 use Rattle.reading.proofs.read.Tie as tie
 
@@ -39,11 +39,11 @@ held-got : (c : tie.Else4)
 held-got c = part-good (c .before .before .read2 .ensures) (not-false _ (c .if4 .left))
 
 past-held : (c : tie.Else4)
-    → Leads (c .before .before .before .before .before .before .before .before .before .before .before .before .args .bytes .now) (due marks) 0 (sectionsDue [] (whole (c .before .before .before .before .before .before .before .before .byte .result) (c .before .before .before .before .before .read .result .own) (c .before .before .read2 .result .own))) (c .before .before .read2 .result .at)
+    → Leads (c .before .before .before .before .before .before .before .before .before .before .before .before .args .bytes .now) (due marks) 0 (sectionsDue [] (wholeRecord (c .before .before .before .before .before .before .before .before .byte .result) (c .before .before .before .before .before .read .result .own) (c .before .before .read2 .result .own))) (c .before .before .read2 .result .at)
 past-held c =
     then (past-class (c .before .before .before)) (held-got c .leads [] (middle (c .before .before .before .before .before .before .before .before .byte .result) (c .before .before .before .before .before .read .result .own)) (before-held (c .before .before .before .before .before .before .before .before .byte .result) (c .before .before .before .before .before .read .result .own)))
 
-all-good : (c : tie.Else5) → Reading mostMarks (c .before .before .before .before .before .before .before .before .before .before .before .before .before .args .bytes .now) (good-outcome (whole (c .before .before .before .before .before .before .before .before .before .byte .result) (c .before .before .before .before .before .before .read .result .own) (c .before .before .before .read2 .result .own)))
+all-good : (c : tie.Else5) → Reading mostMarks (c .before .before .before .before .before .before .before .before .before .before .before .before .before .args .bytes .now) (good-outcome (wholeRecord (c .before .before .before .before .before .before .before .before .before .byte .result) (c .before .before .before .before .before .before .read .result .own) (c .before .before .before .read2 .result .own)))
 all-good c = then-run (past-held (c .before)) (all-read (c .before .before .before .before .before .before .before .before .before .before .before .before .before .args .bytes .now) _ _ (c .if5 .left))
 
 bytes-known : (c : tie.After-shared-slice-known2) → Bytes (c .before .before .before .args .bytes .now)
@@ -52,13 +52,13 @@ bytes-known c i = omega (arith, c .shared-slice-known2 .given i)
 returns : tie.Need-returns
 returns c =
     let t = c .before .before .before .args .bytes .now in
-    refusal t 10 0 (c .refused .ensures) (subst (λ (p : ℕ). Reading mostMarks t (refused 10 p)) (c .before .if1 .taken) (early-at t marks 0 (omega arith) (omega arith)))
+    refusal-read t 10 0 (c .refused .ensures) (subst (λ (p : ℕ). Reading mostMarks t (refused 10 p)) (c .before .if1 .taken) (early-at t marks 0 (omega arith) (omega arith)))
 
 returns-2 : tie.Need-returns-2
 returns-2 c =
     let m = c .before .before .before .byte in
     let t = c .before .before .before .before .before .before .before .args .bytes .now in
-    refusal t 1 0 (c .refused2 .ensures) (marks-wrong t (m .result) (omega arith) (m .ensures .0) (sym (c .before .before .marks-ok .ensures) ∙ not-true _ (c .before .if2 .taken)))
+    refusal-read t 1 0 (c .refused2 .ensures) (marks-wrong t (m .result) (omega arith) (m .ensures .0) (sym (c .before .before .marks-ok .ensures) ∙ not-true _ (c .before .if2 .taken)))
 
 read-requires : tie.Need-read-requires
 read-requires c κs = (marks-most mostMarks (c .before .before .byte .result) (m-ok c), omega arith)
@@ -66,7 +66,7 @@ read-requires c κs = (marks-most mostMarks (c .before .before .byte .result) (m
 returns-3 : tie.Need-returns-3
 returns-3 c =
     let m = c .before .before .before .before .before .before .byte .result in
-    refusal (c .before .before .before .before .before .before .before .before .before .before .args .bytes .now) 10 _ (c .refused3 .ensures)
+    refusal-read (c .before .before .before .before .before .before .before .before .before .before .args .bytes .now) 10 _ (c .refused3 .ensures)
     (then-run (past-marks (c .before .before .before .before)) (part-bad (c .before .before .before .read .ensures) (not-true _ (c .before .if3 .taken)) (Held ∷ []) (opened m) (before-class m)))
 
 read-requires-2 : tie.Need-read-requires-2
@@ -76,13 +76,13 @@ returns-4 : tie.Need-returns-4
 returns-4 c =
     let m = c .before .before .before .before .before .before .before .before .before .byte .result in
     let outs = c .before .before .before .before .before .before .read .result .own in
-    refusal (c .before .before .before .before .before .before .before .before .before .before .before .before .before .args .bytes .now) 10 _ (c .refused4 .ensures)
+    refusal-read (c .before .before .before .before .before .before .before .before .before .before .before .before .before .args .bytes .now) 10 _ (c .refused4 .ensures)
     (then-run (past-class (c .before .before .before .before)) (part-bad (c .before .before .before .read2 .ensures) (not-true _ (c .before .if4 .taken)) [] (middle m outs) (before-held m outs)))
 
 returns-5 : tie.Need-returns-5
 returns-5 c =
     let t = c .before .before .before .before .before .before .before .before .before .before .before .before .before .before .args .bytes .now in
-    refusal t 10 _ (c .refused5 .ensures) (then-run (past-held (c .before .before)) (left-over t _ _ (c .before .if5 .taken)))
+    refusal-read t 10 _ (c .refused5 .ensures) (then-run (past-held (c .before .before)) (left-over t _ _ (c .before .if5 .taken)))
 
 afresh-requires : tie.Need-afresh-requires
 afresh-requires c κs =
@@ -101,7 +101,7 @@ returns-6 c =
     let m = c .before .before .before .before .before .before .before .before .before .before .before .before .before .before .byte .result in
     let outs = c .before .before .before .before .before .before .before .before .before .before .before .read .result .own in
     let times = c .before .before .before .before .before .before .before .before .read2 .result .own in
-    record { outcome = good-outcome (whole m outs times); run = all-good (c .before .before .before .before .before); is = answered m outs times (class-got (c .before .before .before .before .before .before .before .before .before) .most) (c .afresh .ensures) }
+    record { outcome = good-outcome (wholeRecord m outs times); run = all-good (c .before .before .before .before .before); is = read-answered m outs times (class-got (c .before .before .before .before .before .before .before .before .before) .most) (c .afresh .ensures) }
 
 pub read-spec : {M : Type 1} → statement M
 read-spec = tie.close (tie.spec

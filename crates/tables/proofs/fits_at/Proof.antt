@@ -10,7 +10,7 @@ use borrow.Author.Count.{below-more}
 use borrow.Author.Tests.{not-true, not-false}
 use Rattle.boxes.specs.Boxes.{through}
 use Rattle.tables.specs.Parts.{fitsMoved}
-use Rattle.tables.proofs.Touched.{touched-all, touched-no, judged}
+use Rattle.tables.proofs.Touched.{touched-all, touched-no, turn-judged}
 use Rattle.tables.proofs.fits_at.Statement.{statement}
 use Rattle.tables.proofs.fits_at.Tie as tie
 
@@ -27,7 +27,7 @@ here : (c : tie.After-fits2 Inv-loop μ-loop)
 here c =
     let l = c .before .before .before .before .before .loop in
     let a = c .before .before .before .before .before .before .before .before .args in
-    judged (a .m) (a .c) (l .k) (a .by) (a .t .now) (a .most) (a .each) (c .before .before .before .through .result) _ _
+    turn-judged (a .m) (a .c) (l .k) (a .by) (a .t .now) (a .most) (a .each) (c .before .before .before .through .result) _ _
     (omega (arith, c .before .before .before .before .loop-test .taken, l .inv .1)) (c .before .before .before .through .ensures .0)
     (ap (λ (s : ℕ). a .most + a .each * s) (c .before .before .power22 .ensures .0)) (c .fits2 .ensures)
 

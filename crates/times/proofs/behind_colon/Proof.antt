@@ -46,14 +46,14 @@ grown-requires-2 c κs = let b = ones (c .before) in (omega (arith, tens (c .bef
 after-requires : tie.Need-after-requires
 after-requires c κs = (c .before .before .before .before .before .before .before .before .before .before .before .before .pre, omega (arith, tens (c .before .before .before .before .before .before .before), ones (c .before .before .before), number (c .before)))
 
-moved-requires : tie.Need-moved-requires
-moved-requires c κs = omega (arith, place-le _ (rest c), length-drop 2 (c .before .before .before .before .before .before .before .before .before .before .before .before .before .args .part .now), c .before .before .before .before .before .before .before .if3 .left, c .before .before .before .before .before .before .before .before .before .before .before .if1 .left)
+placed-on-requires : tie.Need-placed-on-requires
+placed-on-requires c κs = omega (arith, place-le _ (rest c), length-drop 2 (c .before .before .before .before .before .before .before .before .before .before .before .before .before .args .part .now), c .before .before .before .before .before .before .before .if3 .left, c .before .before .before .before .before .before .before .before .before .before .before .if1 .left)
 
 returns-5 : tie.Need-returns-5
-returns-5 c = rw (c .moved .ensures) (behind-two _ _ _ (omega (arith, c .before .before .before .before .before .before .before .before .if3 .left, c .before .before .before .before .before .before .before .before .before .before .before .before .if1 .left)) (tens (c .before .before .before .before .before .before .before .before .before)) (ones (c .before .before .before .before .before)) (number (c .before .before .before)) (rest (c .before)))
+returns-5 c = rw (c .placed-on .ensures) (behind-two _ _ _ (omega (arith, c .before .before .before .before .before .before .before .before .if3 .left, c .before .before .before .before .before .before .before .before .before .before .before .before .if1 .left)) (tens (c .before .before .before .before .before .before .before .before .before)) (ones (c .before .before .before .before .before)) (number (c .before .before .before)) (rest (c .before)))
 
 pub behind-colon-spec : {M : Type 1} → statement M
 behind-colon-spec = tie.close (tie.spec
     returns (λ c. search needs) (λ c κs. search needs) returns-2 returns-3 (λ c. search needs) (λ c κs. search needs)
     returns-4 grown-requires grown-requires-2 (λ c. search needs) (λ c. search needs) (λ c. search needs)
-    after-requires moved-requires returns-5)
+    after-requires placed-on-requires returns-5)

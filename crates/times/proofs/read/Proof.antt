@@ -29,16 +29,16 @@ part-behind-colon-start c = led-small (led (c .before)) .1
 behind-colon-requires : tie.Need-behind-colon-requires
 behind-colon-requires c κs = led-small (led (c .before .before)) .0
 
-moved-requires : tie.Need-moved-requires
-moved-requires c κs = omega (arith, led-small (led (c .before .before .before)) .1, place-le _ (rest c), length-drop (c .before .before .before .lead2 .given .0 .1 .0) (c .before .before .before .before .before .before .before .args .text .now))
+placed-on-requires : tie.Need-placed-on-requires
+placed-on-requires c κs = omega (arith, led-small (led (c .before .before .before)) .1, place-le _ (rest c), length-drop (c .before .before .before .lead2 .given .0 .1 .0) (c .before .before .before .before .before .before .before .args .text .now))
 
 returns : tie.Need-returns
 returns c = led-stop (subst (λ (r : Lead). Led (c .before .before .before .before .before .args .text .now) r) (c .before .lead .given .1) (c .before .before .before .before-colon .ensures))
 
 returns-2 : tie.Need-returns-2
-returns-2 c = rw (c .moved .ensures) (led-on _ _ _ (led (c .before .before .before .before)) (rest (c .before)))
+returns-2 c = rw (c .placed-on .ensures) (led-on _ _ _ (led (c .before .before .before .before)) (rest (c .before)))
 
 pub read-spec : {M : Type 1} → statement M
 read-spec = tie.close (tie.spec
     (λ c κs. search needs) (λ c. search needs) (λ c. search needs) sub-behind-colon part-behind-colon-start
-    (λ c. search needs) behind-colon-requires moved-requires returns returns-2)
+    (λ c. search needs) behind-colon-requires placed-on-requires returns returns-2)

@@ -24,29 +24,14 @@ loop-holds : tie.Need-loop-holds Inv-loop μ-loop
 unfolding boxLines
 loop-holds c = let s = c .before .before .before in (omega arith, refl, omega arith, wrote-none (s .args .out .now) (s .args .at))
 
-shared-slice-read-byte : tie.Need-shared-slice-read-byte Inv-loop μ-loop
-shared-slice-read-byte c = omega arith
-
-byte-requires : tie.Need-byte-requires Inv-loop μ-loop
-byte-requires c κs = search needs
-
 mul-wide : tie.Need-mul-wide Inv-loop μ-loop
 mul-wide c = let h = c .before .before .shared-slice-known3 .given (c .before .before .before .before .loop .i) in omega (arith, c .before .byte .ensures .0)
 
 shared-slice-read-wide : tie.Need-shared-slice-read-wide Inv-loop μ-loop
 shared-slice-read-wide c = let s = c .before .before .before .before .before .before .before .before .before in omega (arith, c .before .before .byte .ensures .0, s .pre .1 .0 (c .before .before .before .before .before .loop .i) (omega arith))
 
-wide-requires : tie.Need-wide-requires Inv-loop μ-loop
-wide-requires c κs = search needs
-
 put-line-requires : tie.Need-put-line-requires Inv-loop μ-loop
 put-line-requires c κs = let s = c .before .before .before .before .before .before .before .before .before .before in let l = c .before .before .before .before .before .before .loop in (s .pre .0, omega (arith, s .pre .1 .1, l .inv .1, l .inv .2))
-
-add-i : tie.Need-add-i Inv-loop μ-loop
-add-i c = omega arith
-
-loop-less : tie.Need-loop-less Inv-loop μ-loop
-loop-less c = omega arith
 
 loop-again : tie.Need-loop-again Inv-loop μ-loop
 loop-again c =
@@ -80,20 +65,6 @@ returns c =
     )
 
 pub put-lines-spec : {M : Type 1} → statement M
-put-lines-spec =
-    tie.close
-    (tie.spec
-    Inv-loop
-    μ-loop
-    loop-holds
-    shared-slice-read-byte
-    byte-requires
-    mul-wide
-    shared-slice-read-wide
-    wide-requires
-    put-line-requires
-    add-i
-    loop-less
-    loop-again
-    same-length
-    returns)
+put-lines-spec = tie.close (tie.spec
+    Inv-loop μ-loop loop-holds (λ c. omega arith) (λ c κs. search needs) mul-wide shared-slice-read-wide
+    (λ c κs. search needs) put-line-requires (λ c. omega arith) (λ c. omega arith) loop-again same-length returns)

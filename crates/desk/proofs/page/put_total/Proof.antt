@@ -7,20 +7,11 @@ use Rattle.print.proofs.Digits.{time-room}
 use Rattle.desk.proofs.page.put_total.Statement.{statement}
 use Rattle.desk.proofs.page.put_total.Tie as tie
 
-slice-aggregate-put : tie.Need-slice-aggregate-put
-slice-aggregate-put c = search needs
-
-put-requires : tie.Need-put-requires
-put-requires c κs = search needs
-
 put-time-requires : tie.Need-put-time-requires
 put-time-requires c κs = let s = c .before .before .before .before .before .before .before in omega (arith, s .pre, time-room (s .args .seconds) (omega arith))
 
 put-byte-requires : tie.Need-put-byte-requires
 put-byte-requires c κs = let s = c .before .before .before .before .before .before .before .before .before .before .before in omega (arith, s .pre, time-room (s .args .seconds) (omega arith))
-
-same-length : tie.Need-same-length
-same-length c = search needs
 
 returns : tie.Need-returns
 unfolding lastLine
@@ -29,12 +20,5 @@ returns c =
     wrote-three (c .before .before .before .before .before .before .before .before .before .before .put .ensures) (c .before .before .before .before .before .before .put-time .ensures) (c .before .before .put-byte .ensures) (omega (arith, s .pre, time-room (s .args .seconds) (omega arith)))
 
 pub put-total-spec : {M : Type 1} → statement M
-put-total-spec =
-    tie.close
-    (tie.spec
-    slice-aggregate-put
-    put-requires
-    put-time-requires
-    put-byte-requires
-    same-length
-    returns)
+put-total-spec = tie.close (tie.spec
+    (λ c. search needs) (λ c κs. search needs) put-time-requires put-byte-requires (λ c. search needs) returns)

@@ -17,27 +17,6 @@ list-given : (c : tie.After-list) {r : Record} → OfRecord (c .before .before .
     → Given r (c .before .before .area .result) (c .list .result) (c .list .last .1 .0)
 list-given c of = given of (c .before .before .area .ensures) (c .list .ensures)
 
-class-size-requires : tie.Need-class-size-requires
-class-size-requires c κs = search needs
-
-area-requires : tie.Need-area-requires
-area-requires c κs = search needs
-
-slice-aggregate-list : tie.Need-slice-aggregate-list
-slice-aggregate-list c = search needs
-
-list-requires : tie.Need-list-requires
-list-requires c κs = search needs
-
-total-requires : tie.Need-total-requires
-total-requires c κs = search needs
-
-put-heads-requires : tie.Need-put-heads-requires
-put-heads-requires c κs = search needs
-
-slice-aggregate-put-lines : tie.Need-slice-aggregate-put-lines
-slice-aggregate-put-lines c = search needs
-
 array-share-prefix-area : tie.Need-array-share-prefix-area
 array-share-prefix-area c =
     let of = c .before .before .before .before .before .before .before .before .before .before .before .before .before .before .pre .0 .1 in
@@ -71,9 +50,6 @@ put-total-requires c κs =
     let h = total-room of g sized (c .before .before .before .before .before .before .before .before .before .put-heads .ensures) (s .pre .1) (c .before .before .before .put-lines .ensures .0) in
     omega arith
 
-same-length : tie.Need-same-length
-same-length c = search needs
-
 returns : tie.Need-returns
 returns c =
     λ r of.
@@ -85,19 +61,7 @@ returns c =
     (c .before .before .before .before .before .before .before .before .before .before .before .before .before .before .total .ensures) (l .1) (l .0) (c .before .before .put-total .ensures)
 
 pub result-spec : {M : Type 1} → statement M
-result-spec =
-    tie.close
-    (tie.spec
-    class-size-requires
-    area-requires
-    slice-aggregate-list
-    list-requires
-    total-requires
-    put-heads-requires
-    slice-aggregate-put-lines
-    array-share-prefix-area
-    slice-aggregate-put-lines-2
-    put-lines-requires
-    put-total-requires
-    same-length
-    returns)
+result-spec = tie.close (tie.spec
+    (λ c κs. search needs) (λ c κs. search needs) (λ c. search needs) (λ c κs. search needs) (λ c κs. search needs)
+    (λ c κs. search needs) (λ c. search needs) array-share-prefix-area slice-aggregate-put-lines-2 put-lines-requires
+    put-total-requires (λ c. search needs) returns)

@@ -9,14 +9,8 @@ use Rattle.desk.proofs.Steps.{of-record}
 use Rattle.desk.proofs.session.finish.Statement.{statement}
 use Rattle.desk.proofs.session.finish.Tie as tie
 
-enum-told : tie.Need-enum-told
-enum-told c = search needs
-
 cut-off-requires : tie.Need-cut-off-requires
 cut-off-requires c κs = let s = c .before .before .before .before .before .before .before .pre in (at-fits (s .stands .0) (s .stands .1), omega (arith, s .space))
-
-enum-told-2 : tie.Need-enum-told-2
-enum-told-2 c = search needs
 
 cut-off-requires-2 : tie.Need-cut-off-requires-2
 cut-off-requires-2 c κs = let s = c .before .before .before .before .before .before .before .pre in (at-fits (s .stands .0) (s .stands .1), omega (arith, s .space))
@@ -28,17 +22,8 @@ result-requires c κs =
     let i = at-state (s .stands .0) (s .stands .1) in
     ((recordIn (i .0), of-record (i .1)), omega (arith, s .space, s .count, c .before .before .before .cut-off2 .ensures .place, cut-off-length (d .line .number) (rowOf (d .line)) (omega (arith, s .count))))
 
-enum-told-3 : tie.Need-enum-told-3
-enum-told-3 c = search needs
-
-same-length : tie.Need-same-length
-same-length c = search needs
-
 returns : tie.Need-returns
 returns c = λ p at. finish-first p at (c .before .before .before .before .enum-told .given .1) (c .before .before .cut-off .ensures)
-
-same-length-2 : tie.Need-same-length-2
-same-length-2 c = search needs
 
 returns-2 : tie.Need-returns-2
 returns-2 c =
@@ -52,17 +37,6 @@ returns-3 : tie.Need-returns-3
 returns-3 c = λ p at. finish-over p _ at (c .enum-told3 .given .1)
 
 pub finish-spec : {M : Type 1} → statement M
-finish-spec =
-    tie.close
-    (tie.spec
-    enum-told
-    cut-off-requires
-    enum-told-2
-    cut-off-requires-2
-    result-requires
-    enum-told-3
-    same-length
-    returns
-    same-length-2
-    returns-2
-    returns-3)
+finish-spec = tie.close (tie.spec
+    (λ c. search needs) cut-off-requires (λ c. search needs) cut-off-requires-2 result-requires (λ c. search needs)
+    (λ c. search needs) returns (λ c. search needs) returns-2 returns-3)

@@ -5,29 +5,11 @@ use Rattle.desk.proofs.Steps.{of-record, step-first, step-later, step-o
 use Rattle.desk.proofs.session.step.Statement.{statement}
 use Rattle.desk.proofs.session.step.Tie as tie
 
-enum-told : tie.Need-enum-told
-enum-told c = search needs
-
-first-line-requires : tie.Need-first-line-requires
-first-line-requires c κs = search needs
-
-enum-told-2 : tie.Need-enum-told-2
-enum-told-2 c = search needs
-
 later-line-requires : tie.Need-later-line-requires
 later-line-requires c κs = let s = c .before .before .before .before .before in ((recordIn (s .pre .0 .0), of-record (s .pre .0 .1)), s .pre .1)
 
-enum-told-3 : tie.Need-enum-told-3
-enum-told-3 c = search needs
-
-same-length : tie.Need-same-length
-same-length c = search needs
-
 returns : tie.Need-returns
 returns c = λ s i. step-first s i (c .before .before .before .before .enum-told .given .1) (c .before .before .first-line .ensures)
-
-same-length-2 : tie.Need-same-length-2
-same-length-2 c = search needs
 
 returns-2 : tie.Need-returns-2
 returns-2 c = λ s i. step-later s i (c .before .before .before .before .enum-told2 .given .1) (c .before .before .later-line .ensures)
@@ -36,16 +18,6 @@ returns-3 : tie.Need-returns-3
 returns-3 c = λ s i. step-over s i (c .enum-told3 .given .1)
 
 pub step-spec : {M : Type 1} → statement M
-step-spec =
-    tie.close
-    (tie.spec
-    enum-told
-    first-line-requires
-    enum-told-2
-    later-line-requires
-    enum-told-3
-    same-length
-    returns
-    same-length-2
-    returns-2
-    returns-3)
+step-spec = tie.close (tie.spec
+    (λ c. search needs) (λ c κs. search needs) (λ c. search needs) later-line-requires (λ c. search needs)
+    (λ c. search needs) returns (λ c. search needs) returns-2 returns-3)

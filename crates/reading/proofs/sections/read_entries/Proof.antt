@@ -12,20 +12,20 @@ use Rattle.stored.specs.Parts.{unset}
 use Rattle.stored.specs.declared.Section.{Section}
 use Rattle.reading.specs.Parts.{FieldRead, least, good}
 use Rattle.reading.proofs.Offsets.{field-inside, field-number}
-use Rattle.reading.proofs.Entries.{Reached, reached-none, reached-end, part-stopped, entry-wrong, number-wrong, reached-more}
+use Rattle.reading.proofs.Entries.{EntriesReached, reached-none, reached-end, part-stopped, entry-wrong, number-wrong, reached-more}
 use Rattle.reading.proofs.sections.read_entries.Statement.{statement}
 use Rattle.reading.proofs.sections.read_entries.Tie as tie
 
 abbrev Inv-loop : tie.InvT-loop
 Inv-loop t start m n top k few none own₀ at₀ low₀ sum₀ left₀ own at low sum left =
-    (top ≡ 2 ^ m - 1) × ((s : Section) → bytesBehind s ≡ k → least s ≡ few → unset s ≡ none → Reached t s m n start own at low left sum)
+    (top ≡ 2 ^ m - 1) × ((s : Section) → bytesBehind s ≡ k → least s ≡ few → unset s ≡ none → EntriesReached t s m n start own at low left sum)
 
 abbrev μ-loop : tie.MeasureT-loop
 μ-loop t start m n top k few none own₀ at₀ low₀ sum₀ left₀ own at low sum left = left
 
 -- what the loop has reached in the section at hand
 reached : (c : tie.At-loop Inv-loop μ-loop)
-    → Reached (c .before .before .before .before .before .before .args .t .now) (c .before .before .before .before .before .before .args .section) (c .before .before .before .before .before .before .args .m) (c .before .before .before .before .before .before .args .n) (c .before .before .before .before .before .before .args .start) (c .loop .own) (c .loop .at) (c .loop .low) (c .loop .left) (c .loop .sum)
+    → EntriesReached (c .before .before .before .before .before .before .args .t .now) (c .before .before .before .before .before .before .args .section) (c .before .before .before .before .before .before .args .m) (c .before .before .before .before .before .before .args .n) (c .before .before .before .before .before .before .args .start) (c .loop .own) (c .loop .at) (c .loop .low) (c .loop .left) (c .loop .sum)
 reached c = c .loop .inv .1 (c .before .before .before .before .before .before .args .section) (sym (c .before .before .before .bytes-behind .ensures .0)) (sym (c .before .before .least .ensures)) (sym (c .before .unset .ensures))
 
 -- the two fields that it reads

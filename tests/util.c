@@ -1,0 +1,219 @@
+/* Each function of vault_util.h against the library: patterns and single lines against the numbers and lists of sheets, times against the reading of
+   times, and a sheet that swaps its areas against the entries with areas of their own. Prints what failed and the number of checks; the exit
+   status is 0 only if none failed. */
+#include "vault_util.h"
+#include <inttypes.h>
+#include <stdio.h>
+#include <string.h>
+
+static int checks, faults;
+
+static void check(int good, const char *what, uint64_t which)
+{
+    checks++;
+    if (!good) {
+        faults++;
+        printf("FAILED: %s (%" PRIu64 ")\n", what, which);
+    }
+}
+
+static int same(struct vault_reply a, struct vault_reply b)
+{
+    return a.answer == b.answer && a.place == b.place && a.value == b.value;
+}
+
+/* ---- answers */
+
+static void answers(void)
+{
+    const char *none = vault_answer_text(11);
+    for (uint64_t a = 0; a <= 10; a++) {
+        check(strcmp(vault_answer_text(a), none) != 0, "an answer without words", a);
+        for (uint64_t b = 0; b < a; b++)
+            check(strcmp(vault_answer_text(a), vault_answer_text(b)) != 0, "two answers with the same words", a);
+    }
+    check(strcmp(vault_answer_text(UINT64_MAX), none) == 0 && strcmp(vault_answer_text(UINT64_C(0x100000000)), none) == 0, "no answer", 0);
+}
+
+/* ---- lines */
+
+static int pattern_has(const char *pattern, uint64_t marks, uint64_t c)
+{
+    int has = strlen(pattern) == marks;
+    for (uint64_t i = 0; has && i < marks; i++)
+        has = pattern[i] == '-' || pattern[i] == ((c >> (marks - 1 - i)) % 2 ? '1' : '0');
+    return has;
+}
+
+/* The class of all that a pattern has is one line, that one, and each combination is outside it or not as the library says. */
+static void pattern(uint64_t marks, uint64_t line)
+{
+    char text[VAULT_PATTERN_SIZE], again[VAULT_PATTERN_SIZE];
+    uint8_t list[VAULT_LIST_SIZE];
+    struct vault_sheet s;
+    uint64_t outside;
+    vault_line_pattern(marks, line, text);
+    vault_sheet_open(&s, marks);
+    outside = vault_sheet_outside(&s, line).value;
+    for (uint64_t c = 0; c < VAULT_COMBINATIONS(marks); c++) {
+        if (!pattern_has(text, marks, c))
+            continue;
+        vault_sheet_enter(&s, c);
+        check(vault_sheet_outside(&s, line).value == --outside, "a combination of a pattern", line);
+    }
+    check(outside == 0, "a pattern has all of its line", line);
+    struct vault_reply r = vault_sheet_list(&s, list);
+    check(r.value == 1 && list[0] == line, "the list of a pattern", line);
+    check(strcmp(vault_line_pattern(marks, list[0], again), text) == 0, "the pattern of a list", line);
+}
+
+static void patterns(void)
+{
+    static const uint64_t none[][2] = {{0, 0}, {6, 0}, {2, 9}, {5, 243}, {1, UINT64_MAX}, {UINT64_MAX, 0}, {UINT64_C(0x100000002), 1}};
+    char text[VAULT_PATTERN_SIZE];
+    for (uint64_t marks = 1; marks <= VAULT_MOST_MARKS; marks++)
+        for (uint64_t line = 0; line < VAULT_LINES(marks); line++)
+            pattern(marks, line);
+    for (size_t i = 0; i < sizeof none / sizeof *none; i++)
+        check(vault_line_pattern(none[i][0], none[i][1], text) == text && text[0] == '\0', "a pattern of no line", i);
+    check(strcmp(vault_line_pattern(3, 21, text), "-10") == 0, "line 21 of three marks", 21);
+}
+
+/* What is received under one combination is held by its line, and by no other single one. */
+static void single(uint64_t marks, uint64_t c)
+{
+    struct vault_sheet s;
+    char text[VAULT_PATTERN_SIZE];
+    uint64_t line = vault_line_of(c);
+    vault_sheet_open(&s, marks);
+    vault_sheet_receive(&s, c, c + 1);
+    for (uint64_t d = 0; d < VAULT_COMBINATIONS(marks); d++)
+        check(vault_sheet_held(&s, vault_line_of(d)).value == (d == c ? c + 1 : 0), "a single combination", c);
+    check(pattern_has(vault_line_pattern(marks, line, text), marks, c) && strchr(text, '-') == NULL, "its pattern", c);
+}
+
+static void singles(void)
+{
+    static const uint64_t above[] = {32, 33, 64, 255, 256, UINT64_C(0x100000000), UINT64_MAX};
+    for (uint64_t marks = 1; marks <= VAULT_MOST_MARKS; marks++) {
+        for (uint64_t c = 0; c < VAULT_COMBINATIONS(marks); c++)
+            single(marks, c);
+        for (uint64_t c = VAULT_COMBINATIONS(marks); c < VAULT_MOST_COMBINATIONS; c++)
+            check(vault_line_of(c) >= VAULT_LINES(marks), "a combination of more marks", c);
+    }
+    for (size_t i = 0; i < sizeof above / sizeof *above; i++)
+        check(vault_line_of(above[i]) >= VAULT_MOST_LINES, "no combination", i);
+}
+
+/* ---- times */
+
+static void times(void)
+{
+    static const uint64_t more[] = {36000, 59999, 60000, VAULT_MOST_HELD, UINT64_C(0x100000000), UINT64_MAX - 1, UINT64_MAX};
+    char text[VAULT_TIME_SIZE], want[64];
+    for (uint64_t t = 0; t <= VAULT_MOST_AMOUNT; t++) {
+        vault_time_text(t, text);
+        struct vault_reply r = vault_read_time(text, strlen(text));
+        check(r.answer == VAULT_DONE && r.value == t, "a time is read back", t);
+    }
+    for (size_t i = 0; i < sizeof more / sizeof *more; i++) {
+        snprintf(want, sizeof want, "%" PRIu64 ":%02" PRIu64, more[i] / 60, more[i] % 60);
+        check(vault_time_text(more[i], text) == text && strcmp(text, want) == 0, "a longer time", i);
+        check(vault_read_time(text, strlen(text)).answer == VAULT_UNREADABLE, "a longer time is not read", i);
+    }
+    check(strlen(want) + 1 == VAULT_TIME_SIZE, "the room of a time", strlen(want));
+}
+
+/* ---- sheets */
+
+static struct vault_reply changed(struct vault_sheet *s, int kind, uint64_t c, uint64_t seconds)
+{
+    switch (kind) {
+    case 0: return vault_sheet_enter(s, c);
+    case 1: return vault_sheet_leave(s, c);
+    case 2: return vault_sheet_receive(s, c, seconds);
+    default: return vault_sheet_withdraw(s, c, seconds);
+    }
+}
+
+static struct vault_reply called(const uint8_t *sheet, size_t size, int kind, uint64_t c, uint64_t seconds, uint8_t *out)
+{
+    switch (kind) {
+    case 0: return vault_enter(sheet, size, c, out, VAULT_FORM_SIZE);
+    case 1: return vault_leave(sheet, size, c, out, VAULT_FORM_SIZE);
+    case 2: return vault_receive(sheet, size, c, seconds, out, VAULT_FORM_SIZE);
+    default: return vault_withdraw(sheet, size, c, seconds, out, VAULT_FORM_SIZE);
+    }
+}
+
+static int holds(const struct vault_sheet *s, const uint8_t *bytes, size_t size)
+{
+    return vault_sheet_size(s) == size && memcmp(vault_sheet_bytes(s), bytes, size) == 0;
+}
+
+/* What is told of a sheet, by both. */
+static void tells(const struct vault_sheet *s, const uint8_t *bytes, size_t size, uint64_t line)
+{
+    uint8_t list[VAULT_LIST_SIZE] = {0}, want[VAULT_LIST_SIZE] = {0};
+    int lists = same(vault_sheet_list(s, list), vault_list(bytes, size, want, sizeof want));
+    check(lists && memcmp(list, want, sizeof want) == 0, "the list", line);
+    check(same(vault_sheet_class_size(s), vault_class_size(bytes, size)), "the class size", line);
+    check(same(vault_sheet_total(s), vault_total(bytes, size)), "the total", line);
+    check(same(vault_sheet_outside(s, line), vault_outside(bytes, size, line)), "what is outside", line);
+    check(same(vault_sheet_held(s, line), vault_held(bytes, size, line)), "what is held", line);
+}
+
+/* Random changes, many of them refused, on a sheet and on plain areas. */
+static void changes(uint64_t marks)
+{
+    struct vault_sheet s, copy;
+    uint8_t bytes[VAULT_FORM_SIZE], out[VAULT_FORM_SIZE];
+    size_t size = (size_t)vault_open(marks, bytes, sizeof bytes).value;
+    uint32_t random = (uint32_t)marks;
+    memset(&s, 0x55, sizeof s);
+    check(vault_sheet_open(&s, marks).answer == VAULT_DONE && holds(&s, bytes, size), "an opened sheet", marks);
+    for (uint64_t i = 0; i < 1000; i++) {
+        random = random * 1103515245u + 12345u;
+        int kind = (int)(random >> 16) % 4;
+        uint64_t c = (random >> 18) % (VAULT_COMBINATIONS(marks) + 1), seconds = (random >> 20) % 3 == 0 ? 0 : (random >> 8) % 300;
+        struct vault_reply r = called(bytes, size, kind, c, seconds, out);
+        if (r.answer == VAULT_DONE) {
+            size = (size_t)r.value;
+            memcpy(bytes, out, size);
+        }
+        copy = s;
+        check(same(changed(&s, kind, c, seconds), r) && holds(&s, bytes, size), "a change", i);
+        check(vault_sheet_marks(&s) == marks, "the marks", i);
+        check(r.answer != VAULT_DONE || !holds(&copy, bytes, size), "a copy is another sheet", i);
+        tells(&s, bytes, size, (random >> 10) % 300);
+    }
+    memset(&copy, 0x55, sizeof copy);
+    check(vault_sheet_read(&copy, bytes, size).answer == VAULT_DONE && holds(&copy, bytes, size), "a sheet that is read", marks);
+}
+
+static void no_sheets(void)
+{
+    static const uint8_t bad[] = {1, 3, 0};
+    struct vault_sheet s;
+    memset(&s, 0x55, sizeof s);
+    check(vault_sheet_open(&s, 6).answer == VAULT_MARKS, "an opening that is refused", 6);
+    check(vault_sheet_size(&s) == 0 && vault_sheet_marks(&s) == 0, "leaves no sheet", 6);
+    tells(&s, NULL, 0, 0);
+    vault_sheet_open(&s, 2);
+    struct vault_reply r = vault_sheet_read(&s, bad, sizeof bad);
+    check(r.answer == VAULT_UNREADABLE && r.place == 1, "a reading that is refused", 1);
+    check(vault_sheet_size(&s) == 0 && vault_sheet_enter(&s, 0).answer == VAULT_UNREADABLE, "leaves no sheet", 1);
+}
+
+int main(void)
+{
+    answers();
+    patterns();
+    singles();
+    times();
+    for (uint64_t marks = 1; marks <= VAULT_MOST_MARKS; marks++)
+        changes(marks);
+    no_sheets();
+    printf("util: %d checks, %d failed\n", checks, faults);
+    return faults != 0;
+}
