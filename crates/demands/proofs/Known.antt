@@ -1,16 +1,18 @@
 -- Each list of the table is computed by the model of the search; each text is followed byte by byte: its digits so far, its colon, what stands behind.
 use Prim.Native.Nat.{ℕ, _-_, _+_, _*_, _≤_}
-use mathlib.Core.Path.{refl}
+use mathlib.Core.Path.{_≡_, refl}
+use mathlib.Core.Bool.{Bool, true, _&&_}
 use mathlib.Core.List.{List, [], _∷_}
 use native.Mathlib.Omega.{arith}
 use Rattle.ground.specs.Texts.{ascii}
+use Rattle.ground.proofs.Cases.{and-left, and-right}
 use Rattle.boxes.specs.Boxes.{agrees, contains, through}
 use Rattle.lists.specs.Lists.{among, firstFrom}
 use Rattle.lists.proofs.Known.{below, alike, gives, firstIs, known-list}
 use Rattle.lists.proofs.Model.{laying, trying, seeking, fewest}
 use Rattle.times.specs.declared.Time.the-variants.{Value, Fault}
 use Rattle.times.specs.Texts.{minutes, Numeral}
-use Rattle.demands.specs.Known.{time, Holds, table, Shown}
+use Rattle.demands.specs.Known.{Example, sheet, time, Holds, table, Shown}
 use Rattle.times.specs.Places.{value}
 use Rattle.times.proofs.Behinds.{behind-one}
 use Rattle.times.proofs.Fronts.{SoFar, far-none, far-step, stop-at, colon-at, led-stop, led-on, numeral-digit, numeral-more, readable, noughts}
@@ -45,7 +47,33 @@ ends-early =
     led-on _ 12 3 (colon-at _ 2 12 (two 49 50 (ascii ":3") (omega arith, omega arith) (omega arith, omega arith)) (omega arith) refl (omega arith))
     (behind-one 12 (ascii "3") refl (omega arith, omega arith))
 
+-- the lists of a table are computed at once; what is left are its times
+
+computed : List Example → Bool
+computed [] = true
+computed (sheet m class list ∷ l) = firstIs m class list && computed l
+computed (time text is ∷ l) = computed l
+
+Times : List Example → Type 0
+Times [] = Unit {0}
+Times (sheet m class list ∷ l) = Times l
+Times (time text is ∷ l) = Holds (time text is) × Times l
+
+shown : (l : List Example) → computed l ≡ true → Times l → Shown l
+unfolding computed Times Shown
+shown [] e t = tt
+shown (sheet m class list ∷ l) e t =
+    (known-list m class list (and-left (firstIs m class list) _ e), shown l (and-right (firstIs m class list) _ e) t)
+shown (time text is ∷ l) e t = (t .0, shown l e (t .1))
+
+lists-right : computed table ≡ true
+unfolding computed table firstIs gives alike below among agrees contains through firstFrom laying trying seeking fewest
+lists-right = refl
+
+times-right : Times table
+unfolding Times table
+times-right = (nought, (longest, (too-long, (ends-early, tt))))
+
 -- THE KNOWN SHEETS AND TIMES
 pub known : Shown table
-unfolding table Shown firstIs gives alike below among agrees contains through firstFrom laying trying seeking fewest
-known = (known-list 1 [] [] refl, (known-list 1 (0 ∷ []) (0 ∷ []) refl, (known-list 1 (0 ∷ 1 ∷ []) (2 ∷ []) refl, (known-list 2 (0 ∷ 3 ∷ []) (0 ∷ 4 ∷ []) refl, (known-list 2 (0 ∷ 1 ∷ 2 ∷ []) (2 ∷ 3 ∷ []) refl, (known-list 2 (1 ∷ 2 ∷ 3 ∷ []) (1 ∷ 5 ∷ []) refl, (known-list 2 (0 ∷ 1 ∷ 2 ∷ 3 ∷ []) (8 ∷ []) refl, (known-list 3 (1 ∷ 2 ∷ 4 ∷ 7 ∷ []) (1 ∷ 3 ∷ 9 ∷ 13 ∷ []) refl, (nought, (longest, (too-long, (ends-early, tt))))))))))))
+known = shown table lists-right times-right

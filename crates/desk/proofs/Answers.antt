@@ -18,19 +18,8 @@ use Rattle.lines.specs.declared.Order.the-variants.{Make}
 use Rattle.lines.specs.declared.First.{First}
 use Rattle.lines.specs.declared.First.the-variants.{Marks, NotMarks}
 use Rattle.lines.specs.Words.{Says, enters, leaves, receives, withdraws, said, RowAsks}
+use Rattle.desk.specs.Heard.{Hears, nothing, result, refused, inLine1, inLaterLine}
 use Rattle.desk.specs.Prints.{Result, firstNumber, State, first, going, Step, opens, shut, made, unread, ended}
-
--- what line k prints: nothing, the result, or a refusal by a number of these
-pub data Hears (k : ℕ) (numbers : ℕ → Bool) : List ℕ → Type 0 where
-  nothing : Hears k numbers []
-  result : {r : Record} {text : List ℕ} → Result r text → Hears k numbers text
-  refused : (a : ℕ) → numbers a ≡ true → Hears k numbers (refusal k a)
-
-abbrev pub inLine1 : ℕ → Bool
-inLine1 n = eqb n 1 || eqb n 10
-
-abbrev pub inLaterLine : ℕ → Bool
-inLaterLine n = eqb n 3 || eqb n 4 || eqb n 8 || eqb n 9 || eqb n 10
 
 call-seen : (r : Record) {line : List ℕ} {c : Call} → Says (r .marks) line (Make c) → (eqb (numberOf r c) 0 || inLaterLine (numberOf r c)) ≡ true
 call-seen r (enters {c} n) = rw (lt-leb (2 ^ r .marks) c (n .small)) (if (r .class c) (λ e. rw e) (λ e. rw e))

@@ -7,13 +7,12 @@ use native.Mathlib.Nat.{one-le-pow}
 use native.Mathlib.Omega.{arith}
 use lib.Dec.{eqb, ltb}
 use Rattle.boxes.specs.Boxes.{sumIn, single, allFree}
-use Rattle.boxes.proofs.Boxes.{sumIn-ext}
 use Rattle.boxes.proofs.Choices.{through-lt}
 use Rattle.tables.specs.Tables.{entry, own, Sums}
 use Rattle.sheet.specs.declared.Sheet.{Sheet}
 use Rattle.sheet.specs.declared.Value.{Value}
-use Rattle.sheet.specs.Limits.{marksOk, mostHeld}
-use Rattle.sheet.specs.Record.{Record, Table, outside-counts, held-seconds, kept}
+use Rattle.sheet.specs.Limits.{marksOk}
+use Rattle.sheet.specs.Record.{Record, outside-counts, held-seconds}
 use Rattle.sheet.specs.Sound.{ClassSound, TimesSound, ClassReady, Ready, classOf, recordOf, sizeOf}
 use Rattle.sheet.specs.Calls.{ClassSize}
 use Rattle.sheet.specs.Promises.{Agree}

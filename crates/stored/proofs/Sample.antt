@@ -6,7 +6,7 @@ use native.Mathlib.Omega.{arith}
 use Rattle.boxes.specs.Sums.{sum}
 use Rattle.sheet.specs.Limits.{mostMarks, entries, marksOk}
 use Rattle.stored.specs.declared.Read.{Read}
-use Rattle.stored.specs.Fields.{marks, good}
+use Rattle.stored.specs.Fields.{good}
 use Rattle.stored.specs.Answers.{readOf, Reads}
 use Rattle.stored.specs.Form.{bytes, listed, form}
 use Rattle.stored.specs.Sample.{sample}

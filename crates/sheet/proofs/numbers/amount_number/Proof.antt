@@ -9,7 +9,7 @@ use Rattle.tables.specs.declared.Shift.{Shift}
 use Rattle.tables.specs.Tables.{touched}
 use Rattle.tables.specs.Parts.{fitsMoved}
 use Rattle.tables.proofs.Touched.{touched-ext}
-use Rattle.sheet.specs.Limits.{marksOk, amountOk, mostMarks, entries}
+use Rattle.sheet.specs.Limits.{marksOk, amountOk, mostMarks}
 use Rattle.sheet.specs.Calls.{fitsAmount}
 use Rattle.sheet.proofs.Tests.{marks-most, boxes-fit, amount-most, amount-7, amount-2, amount-4, amount-last, amount-0, amount-bounds, top-small}
 use Rattle.sheet.proofs.numbers.amount_number.Statement.{statement}
