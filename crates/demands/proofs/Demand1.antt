@@ -1,5 +1,5 @@
 -- Call by call: an answer of 0 has nothing to show, and any other is one of the refusals of its contract.
-use Prim.Native.Nat.{ℕ, _+_, _^_, _≤_}
+use Prim.Native.Nat.{ℕ, _^_, _≤_}
 use mathlib.Core.Path.{_≡_, refl, sym, _∙_, ap, subst}
 use mathlib.Core.Bool.{Bool, true, false, not, cond}
 use mathlib.Core.List.{List}
@@ -23,7 +23,6 @@ use Rattle.stored.specs.Fields.{Outcome, good, refused, Reading as ReadsOutcome
 use Rattle.stored.specs.Answers.{readOf, Reads, Writes}
 use Rattle.stored.specs.declared.Read.{Read}
 use Rattle.stored.proofs.Refusals.{refusals}
-use Rattle.times.specs.Texts.{Readable}
 use Rattle.times.specs.Answers.{readingOf, Answered}
 use Rattle.times.specs.declared.Time.{Time}
 use Rattle.times.specs.declared.Reading.{Reading}

@@ -1,21 +1,20 @@
 -- A history that begins with a record that a sheet can have stays with the sheet of the record worked out; what is read off that sheet is the record's.
-use Prim.Native.Nat.{ℕ, _^_, _<_, _≤_}
+use Prim.Native.Nat.{ℕ, _^_, _≤_}
 use mathlib.Core.Path.{_≡_, refl, sym, _∙_, ap, subst}
-use mathlib.Core.Bool.{Bool, true}
+use mathlib.Core.Bool.{true}
 use mathlib.Core.List.{List}
 use native.Mathlib.Omega.{arith}
 use lib.ListN.{length, List·getD-eq-default}
 use Rattle.ground.proofs.Cases.{if, below-or}
-use Rattle.boxes.specs.Boxes.{contains, sumIn}
-use Rattle.boxes.specs.Sums.{sum, only}
+use Rattle.boxes.specs.Boxes.{sumIn}
 use Rattle.boxes.proofs.Boxes.{sumIn-nothing}
 use Rattle.boxes.proofs.Count.{boxes-through}
 use Rattle.tables.specs.Tables.{entry, afresh}
 use Rattle.tables.proofs.Entries.{afresh-entry, tab-length}
 use Rattle.sheet.specs.Limits.{mostMarks, entries, marksOk}
-use Rattle.sheet.specs.Record.{Record, Table, outside-counts, held-seconds, kept, quantity, sheetOf, opened}
+use Rattle.sheet.specs.Record.{Record, Table, outside-counts, held-seconds, kept, quantity, sheetOf}
 use Rattle.sheet.specs.Sound.{sizeOf}
-use Rattle.sheet.specs.Calls.{openOf, didOf, moveOf, ClassSize}
+use Rattle.sheet.specs.Calls.{openOf, moveOf, ClassSize}
 use Rattle.sheet.specs.declared.Answer.{Answer}
 use Rattle.sheet.specs.declared.Call.{Call}
 use Rattle.sheet.specs.declared.Sheet.{Sheet}
@@ -25,7 +24,6 @@ use Rattle.sheet.proofs.Alters.{did-alters}
 use Rattle.sheet.proofs.Tests.{boxes-fit, accepts}
 use Rattle.listing.specs.Listing.{totalOf, Listed, Totalled}
 use Rattle.stored.specs.Answers.{readOf}
-use Rattle.stored.specs.Fields.{Outcome, good}
 use Rattle.stored.specs.Form.{form}
 use Rattle.stored.specs.declared.Read.{Read}
 use Rattle.stored.proofs.IsForm.{is-form}
@@ -36,7 +34,7 @@ use Rattle.histories.proofs.Afresh.{list-afresh, total-afresh, size-afresh}
 use Rattle.histories.proofs.Goods.{good-opened}
 use Rattle.histories.proofs.Histories.{sheet-afresh, answers-afresh, good-all}
 use Rattle.histories.proofs.Travels.{good-read, good-events, lives-afresh}
-use Rattle.vault.specs.Entries.{replied, Holds, Tells, Lends, KeptAt}
+use Rattle.vault.specs.Entries.{replied, Tells, Lends, KeptAt}
 use Rattle.vault.specs.Sequences.{Entry, Serves, entryNumber, afterEntry}
 use Rattle.vault.specs.declared.Reply.{Reply}
 use Rattle.vault.proofs.Sequences.{holds-record, holds-some, serves-afresh, good-entries, open-begins}

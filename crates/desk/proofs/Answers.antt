@@ -13,13 +13,13 @@ use Rattle.sheet.specs.Record.{Record}
 use Rattle.sheet.specs.declared.Call.{Call}
 use Rattle.histories.specs.Histories.{numberOf}
 use Rattle.machine.specs.Rows.{Row}
-use Rattle.machine.specs.Machine.{refusal, spoken}
+use Rattle.machine.specs.Machine.{spoken}
 use Rattle.lines.specs.declared.Order.the-variants.{Make}
 use Rattle.lines.specs.declared.First.{First}
 use Rattle.lines.specs.declared.First.the-variants.{Marks, NotMarks}
 use Rattle.lines.specs.Words.{Says, enters, leaves, receives, withdraws, said, RowAsks}
 use Rattle.desk.specs.Heard.{Hears, nothing, result, refused, inLine1, inLaterLine}
-use Rattle.desk.specs.Prints.{Result, firstNumber, State, first, going, Step, opens, shut, made, unread, ended}
+use Rattle.desk.specs.Prints.{firstNumber, State, first, going, Step, opens, shut, made, unread, ended}
 
 call-seen : (r : Record) {line : List ℕ} {c : Call} → Says (r .marks) line (Make c) → (eqb (numberOf r c) 0 || inLaterLine (numberOf r c)) ≡ true
 call-seen r (enters {c} n) = rw (lt-leb (2 ^ r .marks) c (n .small)) (if (r .class c) (λ e. rw e) (λ e. rw e))
