@@ -2,8 +2,8 @@
 # make sample     the desk program on a sample session
 # make test       the tests outside the proofs (CALLS=400000 random calls from SEED=1)
 # make check      everything: the gate proves all from nothing, then the tests run on an archive made of what was just proved
-# make bench      the library's times, as ratios to plain C in the same run
-# make sanitize   the C programs of tests/ and examples/ under AddressSanitizer, UBSan and valgrind (see tests/sanitize)
+# make bench      the library's times beside plain C's and glpk's (MODULE=1: of its module compiled for the host, as is done on other processors)
+# make sanitize   the library and the C programs of tests/ and examples/ under AddressSanitizer, UBSan and valgrind (see tests/sanitize)
 # make install    library, headers, program and manual pages, to PREFIX=/usr/local (DESTDIR=.. in front of it)
 # make uninstall  takes away what install put there
 # make clean      removes target/, where all that is built lies, the proofs' results too
@@ -24,8 +24,15 @@ all: $(library) $(program)
 
 # rt proves what changed since it was last proved, and builds only what it proved. After the gate nothing has changed: the layers below are
 # taken as they are, and `vault` alone, which is thin, is checked again, since rt makes an archive in the run that proves it.
-$(library): $(sources)
-	rt staticlib vault
+target/staticlib/lib%.a: $(sources)
+	rt staticlib $*
+
+# the module of which rt makes the archive, compiled for the host: as it is, and with AddressSanitizer's checks
+target/host/%.o target/asan/%.o: $(sources)
+	tools/module $*
+
+# What a program of the host links for a crate. The archive is for x86-64.
+native = $(if $(filter x86_64,$(MODULE)$(shell uname -m)),target/staticlib/lib$(1).a,target/host/$(1).o)
 
 # rt leaves a program as it is if nothing in it changed: touch says that it is not older than its sources.
 $(program): $(sources)
@@ -41,12 +48,11 @@ test: all
 check:
 	@tests/gate
 
-bench: $(library)
-	@bench/vault
-	@bench/seek
+bench: $(call native,vault) $(call native,seek_c)
+	@bench/run $^
 
-sanitize:
-	@tests/sanitize
+sanitize: target/asan/vault.o $(call native,vault)
+	@tests/sanitize $^
 
 install: all
 	sed -e 's|@prefix@|$(PREFIX)|' -e 's|@version@|$(VERSION)|' vault.pc.in >target/vault.pc

@@ -1,4 +1,4 @@
-/* The search of crates/seek and crates/weights, written in plain C: what bench/seek compares with. */
+/* The search of crates/seek and crates/weights, written in plain C: what bench/times.c compares with. */
 #include <stddef.h>
 #include <stdint.h>
 

@@ -1,4 +1,4 @@
-/* The library's entries in plain C, the shortest way: a sheet is read as a set of combinations and their seconds, and no numbers are kept. */
+/* Entries of vault.h in plain C. First the shortest way: a sheet is read as a set of combinations and their seconds, and no numbers are kept. */
 #include "plain_vault.h"
 #include "plain_seek.h"
 #include <stdbool.h>
@@ -99,39 +99,7 @@ static struct vault_reply put(const struct sheet *s, uint8_t *out, size_t room)
 
 /* ---- the entries */
 
-struct vault_reply PLAIN(open)(uint64_t marks, uint8_t *out, size_t room)
-{
-    struct sheet s = {0};
-    if (marks < 1 || marks > VAULT_MOST_MARKS)
-        return reply(VAULT_MARKS, 0, 0);
-    s.marks = (unsigned)marks;
-    return put(&s, out, room);
-}
-
-static struct vault_reply change(const uint8_t *sheet, size_t n, uint64_t c, uint32_t had, uint8_t *out, size_t room)
-{
-    struct sheet s;
-    struct vault_reply r = get(&s, sheet, n);
-    if (r.answer != VAULT_DONE)
-        return r;
-    if (c >= s.size)
-        return reply(VAULT_COMBINATION, 0, 0);
-    if ((s.class >> c & 1) != had)
-        return reply(VAULT_STANDING, 0, 0);
-    s.class ^= UINT32_C(1) << c;
-    return put(&s, out, room);
-}
-
-struct vault_reply PLAIN(enter)(const uint8_t *sheet, size_t n, uint64_t c, uint8_t *out, size_t room)
-{
-    return change(sheet, n, c, 0, out, room);
-}
-
-struct vault_reply PLAIN(leave)(const uint8_t *sheet, size_t n, uint64_t c, uint8_t *out, size_t room)
-{
-    return change(sheet, n, c, 1, out, room);
-}
-
+/* Reads the sheet, and tests what comes before its numbers are asked. */
 static struct vault_reply movement(struct sheet *s, const uint8_t *sheet, size_t n, uint64_t c, uint64_t seconds)
 {
     struct vault_reply r = get(s, sheet, n);
@@ -144,7 +112,7 @@ static struct vault_reply movement(struct sheet *s, const uint8_t *sheet, size_t
     return r;
 }
 
-struct vault_reply PLAIN(receive)(const uint8_t *sheet, size_t n, uint64_t c, uint64_t seconds, uint8_t *out, size_t room)
+struct vault_reply plain_receive(const uint8_t *sheet, size_t n, uint64_t c, uint64_t seconds, uint8_t *out, size_t room)
 {
     struct sheet s;
     struct vault_reply r = movement(&s, sheet, n, c, seconds);
@@ -156,50 +124,41 @@ struct vault_reply PLAIN(receive)(const uint8_t *sheet, size_t n, uint64_t c, ui
     return put(&s, out, room);
 }
 
-struct vault_reply PLAIN(withdraw)(const uint8_t *sheet, size_t n, uint64_t c, uint64_t seconds, uint8_t *out, size_t room)
-{
-    struct sheet s;
-    struct vault_reply r = movement(&s, sheet, n, c, seconds);
-    if (r.answer != VAULT_DONE)
-        return r;
-    if (s.held[c] < seconds)
-        return reply(VAULT_BELOW, 0, 0);
-    s.held[c] -= (uint32_t)seconds;
-    return put(&s, out, room);
-}
-
-struct vault_reply PLAIN(copy)(const uint8_t *sheet, size_t n, uint8_t *out, size_t room)
+struct vault_reply plain_copy(const uint8_t *sheet, size_t n, uint8_t *out, size_t room)
 {
     struct sheet s;
     struct vault_reply r = get(&s, sheet, n);
     return r.answer == VAULT_DONE ? put(&s, out, room) : r;
 }
 
-struct vault_reply PLAIN(list)(const uint8_t *sheet, size_t n, uint8_t *list, size_t room)
+static struct vault_reply searched(unsigned marks, uint32_t class, uint8_t *list, size_t room)
 {
-    struct sheet s;
     uint8_t own[VAULT_LIST_SIZE + 1];
     uint64_t laid = 0;
-    struct vault_reply r = get(&s, sheet, n);
-    if (r.answer != VAULT_DONE)
-        return r;
-    if (room < s.size)
+    if (room < VAULT_COMBINATIONS(marks))
         return reply(VAULT_ROOM, 0, 0);
-    size_t k = plain_shortest(s.marks, s.class, s.class, own, &laid);
+    size_t k = plain_shortest(marks, class, class, own, &laid);
     if (k == 0)
         return reply(VAULT_NO_LIST, 0, 0);
     memcpy(list, own, k - 1);
     return reply(VAULT_DONE, 0, k - 1);
 }
 
-struct vault_reply PLAIN(class_size)(const uint8_t *sheet, size_t n)
+struct vault_reply plain_list(const uint8_t *sheet, size_t n, uint8_t *list, size_t room)
+{
+    struct sheet s;
+    struct vault_reply r = get(&s, sheet, n);
+    return r.answer == VAULT_DONE ? searched(s.marks, s.class, list, room) : r;
+}
+
+struct vault_reply plain_class_size(const uint8_t *sheet, size_t n)
 {
     struct sheet s;
     struct vault_reply r = get(&s, sheet, n);
     return r.answer == VAULT_DONE ? reply(VAULT_DONE, 0, (uint64_t)__builtin_popcount(s.class)) : r;
 }
 
-struct vault_reply PLAIN(total)(const uint8_t *sheet, size_t n)
+struct vault_reply plain_total(const uint8_t *sheet, size_t n)
 {
     struct sheet s;
     struct vault_reply r = get(&s, sheet, n);
@@ -209,64 +168,10 @@ struct vault_reply PLAIN(total)(const uint8_t *sheet, size_t n)
     return r;
 }
 
-/* What is told of a line: a sum over its combinations. */
-static struct vault_reply told(const uint8_t *sheet, size_t n, uint64_t line, bool seconds)
-{
-    struct sheet s;
-    struct vault_reply r = get(&s, sheet, n);
-    if (r.answer != VAULT_DONE || line >= VAULT_LINES(s.marks))
-        return r;
-    for (unsigned c = 0; c < s.size; c++) {
-        bool in = true;
-        for (uint64_t i = 0, x = line; i < s.marks; i++, x /= 3)
-            in = in && (x % 3 == 2 || x % 3 == (c >> i & 1));
-        if (in)
-            r.value += seconds ? s.held[c] : !(s.class >> c & 1);
-    }
-    return r;
-}
-
-struct vault_reply PLAIN(outside)(const uint8_t *sheet, size_t n, uint64_t line)
-{
-    return told(sheet, n, line, false);
-}
-
-struct vault_reply PLAIN(held)(const uint8_t *sheet, size_t n, uint64_t line)
-{
-    return told(sheet, n, line, true);
-}
-
-struct vault_reply PLAIN(before)(const uint8_t *a, size_t an, const uint8_t *b, size_t bn)
-{
-    return reply(VAULT_DONE, 0, bn < an || (bn == an && an != 0 && memcmp(b, a, an) < 0));
-}
-
-struct vault_reply PLAIN(read_time)(const void *text, size_t n)
-{
-    const uint8_t *t = text;
-    size_t i = 0;
-    uint64_t minutes = 0;
-    for (; i < n && t[i] >= '0' && t[i] <= '9'; i++) {
-        if ((i > 0 && minutes == 0) || minutes * 10 + t[i] - '0' > 599)
-            return reply(VAULT_UNREADABLE, i, 0);
-        minutes = minutes * 10 + t[i] - '0';
-    }
-    if (i == 0 || i == n || t[i] != ':')
-        return reply(VAULT_UNREADABLE, i, 0);
-    i++;
-    if (i == n || t[i] < '0' || t[i] > '5')
-        return reply(VAULT_UNREADABLE, i, 0);
-    if (i + 1 == n || t[i + 1] < '0' || t[i + 1] > '9')
-        return reply(VAULT_UNREADABLE, i + 1, 0);
-    if (i + 2 < n)
-        return reply(VAULT_UNREADABLE, i + 2, 0);
-    return reply(VAULT_DONE, 0, minutes * 60 + (uint64_t)(t[i] - '0') * 10 + t[i + 1] - '0');
-}
-
-/* ---- the same with kept numbers, as the library does it */
+/* ---- the same by the library's steps: two numbers are kept of every line, and all that is told or written is taken from them */
 
 struct kept {
-    unsigned marks;
+    unsigned marks, size;
     uint32_t outside[VAULT_MOST_LINES], held[VAULT_MOST_LINES];
 };
 
@@ -278,58 +183,82 @@ static unsigned single(unsigned marks, unsigned c)
     return b;
 }
 
-/* The power of three of the lowest free mark of a line, or 0. */
-static unsigned lowest_free(unsigned b)
+/* The numbers of the lines, from what the combinations have of their own: with the highest mark off, with it on, and with it free their sums. */
+static void fill(unsigned marks, const uint32_t *own, uint32_t *t)
 {
-    for (unsigned p = 1; b != 0; p *= 3, b /= 3)
-        if (b % 3 == 2)
-            return p;
-    return 0;
+    if (marks == 0) {
+        *t = *own;
+        return;
+    }
+    unsigned third = marks == 1 ? 1 : VAULT_LINES(marks - 1);
+    fill(marks - 1, own, t);
+    fill(marks - 1, own + (1u << (marks - 1)), t + third);
+    for (unsigned b = 0; b < third; b++)
+        t[2 * third + b] = t[b] + t[third + b];
 }
 
 static void work_out(struct kept *k, const struct sheet *s)
 {
+    uint32_t out[VAULT_MOST_COMBINATIONS];
     memset(k, 0, sizeof *k);
     k->marks = s->marks;
-    for (unsigned c = 0; c < s->size; c++) {
-        unsigned b = single(s->marks, c);
-        k->outside[b] = !(s->class >> c & 1);
-        k->held[b] = s->held[c];
-    }
-    for (unsigned b = 0; b < VAULT_LINES(s->marks); b++) {
-        unsigned p = lowest_free(b);
-        if (p != 0) {
-            k->outside[b] = k->outside[b - p] + k->outside[b - 2 * p];
-            k->held[b] = k->held[b - p] + k->held[b - 2 * p];
-        }
-    }
+    k->size = s->size;
+    for (unsigned c = 0; c < s->size; c++)
+        out[c] = !(s->class >> c & 1);
+    fill(s->marks, out, k->outside);
+    fill(s->marks, s->held, k->held);
 }
 
-static bool sound(const struct kept *k)
+static struct vault_reply get_kept(struct kept *k, const uint8_t *t, size_t n)
 {
-    unsigned n = VAULT_LINES(k->marks);
-    for (unsigned b = 0; b < n; b++) {
-        unsigned p = lowest_free(b);
-        if (p == 0 ? k->outside[b] > 1
-                   : (uint64_t)k->outside[b - p] + k->outside[b - 2 * p] != k->outside[b] || (uint64_t)k->held[b - p] + k->held[b - 2 * p] != k->held[b])
-            return false;
+    struct sheet s;
+    struct vault_reply r = get(&s, t, n);
+    if (r.answer == VAULT_DONE)
+        work_out(k, &s);
+    return r;
+}
+
+static uint32_t class_of(const struct kept *k)
+{
+    uint32_t class = 0;
+    for (unsigned c = 0; c < k->size; c++)
+        class |= (uint32_t)(k->outside[single(k->marks, c)] == 0) << c;
+    return class;
+}
+
+static unsigned count(const struct kept *k, const uint32_t *t, uint32_t unset)
+{
+    unsigned n = 0;
+    for (unsigned c = 0; c < k->size; c++)
+        n += t[single(k->marks, c)] != unset;
+    return n;
+}
+
+/* A section of n combinations, the number that each has of its own in some bytes behind it. */
+static uint8_t *put_section(const struct kept *k, const uint32_t *t, uint32_t unset, unsigned n, unsigned behind, uint8_t *p)
+{
+    *p++ = (uint8_t)n;
+    *p++ = 0;
+    for (unsigned c = 0; c < k->size; c++) {
+        uint32_t x = t[single(k->marks, c)];
+        if (x == unset)
+            continue;
+        *p++ = (uint8_t)c;
+        for (unsigned i = 0; i < behind; i++)
+            *p++ = (uint8_t)(x >> 8 * i);
     }
-    return k->held[n - 1] <= VAULT_MOST_HELD;
+    return p;
 }
 
 static struct vault_reply put_kept(const struct kept *k, uint8_t *out, size_t room)
 {
-    struct sheet s = {0};
-    if (!sound(k))
-        return reply(VAULT_SPOILED, 0, 0);
-    s.marks = k->marks;
-    s.size = 1u << s.marks;
-    for (unsigned c = 0; c < s.size; c++) {
-        unsigned b = single(s.marks, c);
-        s.class |= (uint32_t)(k->outside[b] == 0) << c;
-        s.held[c] = k->held[b];
-    }
-    return put(&s, out, room);
+    unsigned in = count(k, k->outside, 1), held = count(k, k->held, 0);
+    if (room < 5 + in + 5 * held)
+        return reply(VAULT_ROOM, 0, 0);
+    out[0] = (uint8_t)k->marks;
+    uint8_t *p = put_section(k, k->outside, 1, in, 0, out + 1);
+    p = put_section(k, k->held, 0, held, 4, p);
+    return reply(VAULT_DONE, 0, (uint64_t)(p - out));
 }
 
 struct vault_reply tables_receive(const uint8_t *sheet, size_t n, uint64_t c, uint64_t seconds, uint8_t *out, size_t room)
@@ -350,27 +279,31 @@ struct vault_reply tables_receive(const uint8_t *sheet, size_t n, uint64_t c, ui
 
 struct vault_reply tables_copy(const uint8_t *sheet, size_t n, uint8_t *out, size_t room)
 {
-    struct sheet s;
     struct kept k;
-    struct vault_reply r = get(&s, sheet, n);
-    if (r.answer != VAULT_DONE)
-        return r;
-    work_out(&k, &s);
-    return put_kept(&k, out, room);
+    struct vault_reply r = get_kept(&k, sheet, n);
+    return r.answer == VAULT_DONE ? put_kept(&k, out, room) : r;
+}
+
+struct vault_reply tables_list(const uint8_t *sheet, size_t n, uint8_t *list, size_t room)
+{
+    struct kept k;
+    struct vault_reply r = get_kept(&k, sheet, n);
+    return r.answer == VAULT_DONE ? searched(k.marks, class_of(&k), list, room) : r;
+}
+
+struct vault_reply tables_class_size(const uint8_t *sheet, size_t n)
+{
+    struct kept k;
+    struct vault_reply r = get_kept(&k, sheet, n);
+    return r.answer == VAULT_DONE ? reply(VAULT_DONE, 0, k.size - k.outside[VAULT_LINES(k.marks) - 1]) : r;
 }
 
 struct vault_reply tables_total(const uint8_t *sheet, size_t n)
 {
-    struct sheet s;
     struct kept k;
-    struct vault_reply r = get(&s, sheet, n);
-    if (r.answer != VAULT_DONE)
-        return r;
-    work_out(&k, &s);
-    if (!sound(&k))
-        return reply(VAULT_SPOILED, 0, 0);
-    for (unsigned c = 0; c < s.size; c++) {
-        unsigned b = single(s.marks, c);
+    struct vault_reply r = get_kept(&k, sheet, n);
+    for (unsigned c = 0; r.answer == VAULT_DONE && c < k.size; c++) {
+        unsigned b = single(k.marks, c);
         r.value += k.outside[b] == 0 ? k.held[b] : 0;
     }
     return r;

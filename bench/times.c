@@ -1,0 +1,232 @@
+/* The library's times beside those of plain C for the same jobs, and of glpk for the list: sheets of five marks in their stored form, one table.
+
+   Each job is done on each sheet in every round, by each version in turn. Of a sheet the least processor time counts, so that what else runs on the
+   machine shows little; mean and worst are over the sheets. All replies and all that was written are compared; glpk tells only the length of the list. */
+#define _POSIX_C_SOURCE 199309L
+#include "by_glpk.h"
+#include "plain_seek.h"
+#include "plain_vault.h"
+#include <stdio.h>
+#include <string.h>
+#include <time.h>
+
+enum { CLASSES = 20000, HARD = 15, PAIRS = 2000, SHEETS = 500, VERSIONS = 4 };
+
+struct form {
+    uint32_t class, room;
+    uint8_t bytes[VAULT_FORM_SIZE];
+    size_t n;
+    uint64_t c, seconds;
+};
+
+static struct form random_classes[CLASSES], hard[HARD], pairs[PAIRS];
+
+typedef struct vault_reply job(const struct form *f, uint8_t *out);
+
+/* The processor's time for this program. */
+static double now(void)
+{
+    struct timespec t;
+    clock_gettime(CLOCK_PROCESS_CPUTIME_ID, &t);
+    return (double)t.tv_sec * 1e9 + (double)t.tv_nsec;
+}
+
+static uint32_t draw(void)
+{
+    static uint64_t state = 88172645463325252u;
+    state ^= state << 13;
+    state ^= state >> 7;
+    state ^= state << 17;
+    return (uint32_t)(state >> 16);
+}
+
+/* ---- the sheets */
+
+static void make(struct form *f, uint32_t class, uint32_t held)
+{
+    uint8_t *p = f->bytes;
+    f->class = f->room = class;
+    *p++ = 5;
+    *p++ = (uint8_t)__builtin_popcount(class);
+    *p++ = 0;
+    for (int c = 0; c < 32; c++)
+        if (class >> c & 1)
+            *p++ = (uint8_t)c;
+    *p++ = (uint8_t)__builtin_popcount(held);
+    *p++ = 0;
+    for (int c = 0; c < 32; c++)
+        if (held >> c & 1) {
+            uint32_t s = 1 + draw() % 100000000;
+            *p++ = (uint8_t)c;
+            for (int i = 0; i < 4; i++)
+                *p++ = (uint8_t)(s >> 8 * i);
+        }
+    f->n = (size_t)(p - f->bytes);
+    f->c = draw() % 32;
+    f->seconds = 1 + draw() % VAULT_MOST_AMOUNT;
+}
+
+/* Random classes of densities 0.2 to 1, those that a search for bad ones found, and pairs of a class and the room that its boxes may take. */
+static void make_all(void)
+{
+    static const uint32_t known[HARD] = {0xf66fdbbf, 0xb7eddbb7, 0xd7ebbdd7, 0xbe7ddbb7, 0xf99f9ffe, 0x9ff9f97f, 0xebd77eeb, 0x977f7fff,
+                                         0xffffffff, 0xfffefffe, 0x69969669, 0x7f97ed7f, 0xffffbfff, 0xfddf6dda, 0xffd76bd6};
+    for (int i = 0; i < CLASSES; i++) {
+        uint32_t bound = (uint32_t)((0.2 + 0.8 * (i % SHEETS) / (SHEETS - 1)) * 4294967295.0), class = 0;
+        for (int c = 0; c < 32; c++)
+            class |= (uint32_t)(draw() <= bound) << c;
+        make(&random_classes[i], class, draw());
+    }
+    for (int i = 0; i < HARD; i++)
+        make(&hard[i], known[i], 0);
+    for (int i = 0; i < PAIRS; i++) {
+        pairs[i].room = draw() | draw();
+        pairs[i].class = pairs[i].room & draw();
+    }
+}
+
+/* ---- the jobs: by the library, by plain C in the same steps, by plain C that keeps no numbers, by glpk */
+
+/* crates/seek_c: a slice is a pointer and a length */
+size_t seek_shortest(size_t marks, uint32_t need, uint32_t room, uint8_t *area, size_t length);
+
+static struct vault_reply value(size_t n)
+{
+    struct vault_reply r = {VAULT_DONE, 0, n};
+    return r;
+}
+
+#define JOB(name, call) \
+    static struct vault_reply name(const struct form *f, uint8_t *out) { return (void)out, call; }
+JOB(list, vault_list(f->bytes, f->n, out, VAULT_LIST_SIZE))
+JOB(list_s, tables_list(f->bytes, f->n, out, VAULT_LIST_SIZE))
+JOB(list_p, plain_list(f->bytes, f->n, out, VAULT_LIST_SIZE))
+#ifdef GLPK
+JOB(list_g, value(glpk_length(f->class)))
+#else
+#define list_g NULL
+#endif
+JOB(search, value(seek_shortest(5, f->class, f->room, out, VAULT_LIST_SIZE)))
+JOB(search_s, value(plain_shortest(5, f->class, f->room, out, &(uint64_t){0})))
+JOB(receive, vault_receive(f->bytes, f->n, f->c, f->seconds, out, VAULT_FORM_SIZE))
+JOB(receive_s, tables_receive(f->bytes, f->n, f->c, f->seconds, out, VAULT_FORM_SIZE))
+JOB(receive_p, plain_receive(f->bytes, f->n, f->c, f->seconds, out, VAULT_FORM_SIZE))
+JOB(total, vault_total(f->bytes, f->n))
+JOB(total_s, tables_total(f->bytes, f->n))
+JOB(total_p, plain_total(f->bytes, f->n))
+JOB(size, vault_class_size(f->bytes, f->n))
+JOB(size_s, tables_class_size(f->bytes, f->n))
+JOB(size_p, plain_class_size(f->bytes, f->n))
+JOB(copy, vault_copy(f->bytes, f->n, out, VAULT_FORM_SIZE))
+JOB(copy_s, tables_copy(f->bytes, f->n, out, VAULT_FORM_SIZE))
+JOB(copy_p, plain_copy(f->bytes, f->n, out, VAULT_FORM_SIZE))
+
+#define MS 1e6
+#define US 1e3
+
+struct row {
+    const char *name;
+    double unit; /* in nanoseconds */
+    const struct form *forms;
+    int n, rounds, times; /* how often a job is done on a sheet in a row, before the next sheet */
+    job *jobs[VERSIONS];
+};
+
+static const struct row rows[] = {
+    {"list, 20,000 random classes, ms", MS, random_classes, CLASSES, 5, 1, {list, list_s, list_p, list_g}},
+    {"list, 15 hard classes, ms", MS, hard, HARD, 100, 1, {list, list_s, list_p, list_g}},
+    {"search, 2,000 pairs, ms", MS, pairs, PAIRS, 10, 1, {search, search_s, NULL, NULL}},
+    {"one change (receive), us", US, random_classes, SHEETS, 10, 100, {receive, receive_s, receive_p, NULL}},
+    {"total, us", US, random_classes, SHEETS, 10, 100, {total, total_s, total_p, NULL}},
+    {"class size, us", US, random_classes, SHEETS, 10, 100, {size, size_s, size_p, NULL}},
+    {"read and write (copy), us", US, random_classes, SHEETS, 10, 100, {copy, copy_s, copy_p, NULL}},
+};
+
+/* ---- the table */
+
+/* How many replies, or areas, are not the library's; glpk's areas do not count. */
+static int differ(const struct row *r, int v)
+{
+    int wrong = 0;
+    for (int i = 0; r->jobs[v] != NULL && i < r->n; i++) {
+        uint8_t x[VAULT_FORM_SIZE] = {0}, y[VAULT_FORM_SIZE] = {0};
+        struct vault_reply a = r->jobs[0](&r->forms[i], x), b = r->jobs[v](&r->forms[i], y);
+        wrong += a.answer != b.answer || a.place != b.place || a.value != b.value || (v < 3 && memcmp(x, y, sizeof x) != 0);
+    }
+    return wrong;
+}
+
+static double once(job *j, const struct form *f, int times)
+{
+    uint8_t out[VAULT_FORM_SIZE];
+    double from = now();
+    for (int i = 0; i < times; i++)
+        j(f, out);
+    return (now() - from) / times;
+}
+
+/* Prints the row, and returns how much differed. */
+static int measure(const struct row *r)
+{
+    static double least[VERSIONS][CLASSES];
+    double library = 0;
+    int wrong = 0;
+    for (int k = 0; k < r->rounds; k++)
+        for (int v = 0; v < VERSIONS; v++)
+            for (int i = 0; r->jobs[v] != NULL && i < r->n; i++) {
+                double took = once(r->jobs[v], &r->forms[i], r->times) / r->unit;
+                least[v][i] = k == 0 || took < least[v][i] ? took : least[v][i];
+            }
+    printf("%-33s", r->name);
+    for (int v = 0; v < VERSIONS; v++) {
+        double sum = 0, worst = 0;
+        for (int i = 0; r->jobs[v] != NULL && i < r->n; i++) {
+            sum += least[v][i];
+            worst = least[v][i] > worst ? least[v][i] : worst;
+        }
+        if (v == 0)
+            printf("%8.3f%8.3f", (library = sum) / r->n, worst);
+        else if (r->jobs[v] != NULL)
+            printf("%10.3f%8.3f%7.2f", sum / r->n, worst, library / sum);
+        else
+            printf("%10s%8s%7s", "-", "-", "-");
+        wrong += differ(r, v);
+    }
+    printf("\n");
+    if (wrong != 0)
+        printf("    %d replies DIFFER\n", wrong);
+    return wrong;
+}
+
+/* The search of plain C counts them; it lays the same boxes as the library's. */
+static void boxes_laid(const char *name, const struct form *f, int n)
+{
+    uint64_t sum = 0, most = 0;
+    uint32_t class = 0;
+    for (int i = 0; i < n; i++) {
+        uint8_t out[VAULT_LIST_SIZE];
+        uint64_t laid = 0;
+        plain_shortest(5, f[i].class, f[i].room, out, &laid);
+        sum += laid;
+        class = laid > most ? f[i].class : class;
+        most = laid > most ? laid : most;
+    }
+    printf("boxes laid by the search, %s: %.0f on average, %llu at most (class %08x)\n", name, (double)sum / n, (unsigned long long)most, class);
+}
+
+int main(void)
+{
+    int wrong = 0;
+    make_all();
+    printf("%-33s%16s%25s%25s%25s\n", "", "library", "C, same steps", "C, no numbers kept", "glpk, length only");
+    printf("%-33s%8s%8s", "", "mean", "worst");
+    for (int v = 1; v < VERSIONS; v++)
+        printf("%10s%8s%7s", "mean", "worst", "ratio");
+    printf("\n");
+    for (size_t i = 0; i < sizeof rows / sizeof *rows; i++)
+        wrong += measure(&rows[i]);
+    boxes_laid("random classes", random_classes, CLASSES);
+    boxes_laid("hard classes", hard, HARD);
+    boxes_laid("pairs", pairs, PAIRS);
+    return wrong != 0;
+}
