@@ -1,3 +1,4 @@
+-- What the combination has of its own in both tables.
 use Prim.Native.Nat.{_<_}
 use mathlib.Core.Path.{sym, _∙_, ap}
 use native.Mathlib.Omega.{arith}

@@ -1,3 +1,4 @@
+-- The table is filled whole.
 use native.Mathlib.Omega.{arith}
 use native.Mathlib.Nat.{pow-le-pow-right}
 use borrow.Author.Needs.{needs}

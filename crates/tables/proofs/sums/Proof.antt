@@ -1,3 +1,4 @@
+-- The whole table is the part from 0 on.
 use Prim.Native.Nat.{ℕ}
 use mathlib.Core.Path.{subst}
 use native.Mathlib.Omega.{arith}

@@ -1,3 +1,4 @@
+-- A number that is no entry has 0, as the definition says.
 use Prim.Native.Nat.{ℕ}
 use mathlib.Core.Path.{_≡_, sym, ap}
 use native.Mathlib.Omega.{arith}

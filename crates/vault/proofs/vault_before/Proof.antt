@@ -1,3 +1,4 @@
+-- By what the comparison decides.
 use borrow.Author.Needs.{needs}
 use Rattle.vault.proofs.Replies.{second-before, first-keeps}
 use Rattle.ground.proofs.Cases.{clash}

@@ -1,3 +1,4 @@
+-- Two tables, each filled from what the combinations add.
 use Prim.Native.Nat.{ℕ}
 use mathlib.Core.List.{List}
 use mathlib.Core.Path.{ap₂}

@@ -1,3 +1,4 @@
+-- By the test of the marks.
 use mathlib.Core.Path.{sym, _∙_, ap}
 use borrow.Author.Needs.{needs}
 use Rattle.sheet.specs.Limits.{entries, mostMarks}

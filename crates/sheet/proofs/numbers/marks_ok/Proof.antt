@@ -1,3 +1,4 @@
+-- By the first of the two tests.
 use native.Mathlib.Omega.{arith}
 use borrow.Author.Tests.{le-leb, lt-leb}
 use Rattle.sheet.specs.Limits.{marksOk}

@@ -1,3 +1,4 @@
+-- By the flag.
 use mathlib.Core.Bool.{Bool}
 use mathlib.Core.Path.{ap, sym}
 use lib.Dec.{eqb}

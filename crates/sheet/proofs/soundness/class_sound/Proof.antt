@@ -1,3 +1,4 @@
+-- Both tests decide their half.
 use native.Mathlib.Omega.{arith}
 use native.Mathlib.Nat.{pow-le-pow-right}
 use borrow.Author.Needs.{needs}

@@ -1,3 +1,4 @@
+-- Both tests decide their half; the all-free box is the last of 3^m.
 use Prim.Native.Nat.{ℕ, _-_}
 use mathlib.Core.Path.{_≡_, ap}
 use native.Mathlib.Omega.{arith}
