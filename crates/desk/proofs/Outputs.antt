@@ -14,7 +14,8 @@ use Rattle.histories.proofs.Goods.{good-after, good-opened}
 use Rattle.machine.specs.Rows.{Row}
 use Rattle.machine.specs.Machine.{refusal, spoken}
 use Rattle.machine.specs.Pieces.{Position, stateIn, Takes}
-use Rattle.machine.proofs.Outputs.{OneAnswer, SomeAnswer, can-takes, one-output}
+use Rattle.machine.specs.Answers.{OneAnswer, SomeAnswer}
+use Rattle.machine.proofs.Outputs.{can-takes, one-output}
 use Rattle.lines.specs.declared.Order.{Order}
 use Rattle.lines.specs.declared.Order.the-variants.{Make, End, Unreadable}
 use Rattle.lines.specs.declared.First.{First}

@@ -21,6 +21,7 @@ use Rattle.machine.specs.Machine.{Onward}
 use Rattle.lines.specs.declared.Order.the-variants.{Make}
 use Rattle.lines.specs.declared.First.the-variants.{Marks}
 use Rattle.lines.specs.Words.{written, enters, receives, withdraws, ends, said, marks, RowAsks, RowOpens}
+use Rattle.desk.specs.Sample.{sampleInput, sampleOutput}
 use Rattle.desk.specs.Prints.{heads, boxLine, boxLines, lastLine, page, opens, made, ended, Stop, Prints}
 
 -- a class that was entered one combination after another
@@ -64,10 +65,7 @@ receive c d line time h t e = RowAsks.read (said (receives (record { small = h; 
 withdraw : (c d : ℕ) (line time : List ℕ) → c < 4 → Readable time d → line ≡ ascii "gone " ++ written 2 c ++ ascii " " ++ time → RowAsks 2 (whole line) (Make (Withdraw c d))
 withdraw c d line time h t e = RowAsks.read (said (withdraws (record { small = h; time = time; readable = t; text = e })))
 
-abbrev printed : List ℕ
-printed = ascii "class 3\nlines 2\n01 2:30\n1- 10:00\ntotal 12:30\n"
-
-pub sample : Prints (ascii "marks 2\nin 01\nin 10\nin 11\nrecv 11 10:05\nrecv 01 2:30\ngone 11 0:05\nrecv 00 4:00\nend\n") printed
+pub sample : Prints sampleInput sampleOutput
 unfolding rowsFrom judged written marksOk amountOk sum class page heads boxLine boxLines lastLine decimal decimalIn clock pattern sumIn contains agrees
 sample =
     Onward.line {now = []} (opens {f = Marks 2} (RowOpens.read (marks {n = 2} (omega arith, refl))) refl)
@@ -78,4 +76,4 @@ sample =
     (Onward.line {now = []} (made {c = Receive 1 150} (receive 1 150 (ascii "recv 01 2:30") (ascii "2:30") (omega arith) time-150 refl))
     (Onward.line {now = []} (made {c = Withdraw 3 5} (withdraw 3 5 (ascii "gone 11 0:05") (ascii "0:05") (omega arith) time-5 refl))
     (Onward.line {now = []} (made {c = Receive 0 240} (receive 0 240 (ascii "recv 00 4:00") (ascii "4:00") (omega arith) time-240 refl))
-    (Onward.line {now = printed} (ended (RowAsks.read (said (ends refl))) (record { list = 1 ∷ 5 ∷ []; first = list; is = refl })) (Onward.stopped Stop.silent)))))))))
+    (Onward.line {now = sampleOutput} (ended (RowAsks.read (said (ends refl))) (record { list = 1 ∷ 5 ∷ []; first = list; is = refl })) (Onward.stopped Stop.silent)))))))))

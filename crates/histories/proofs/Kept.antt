@@ -8,7 +8,8 @@ use lib.Dec.{eqb, leb}
 use borrow.Author.Tests.{leb-true, not-false, eq-eqb, ne-eqb, le-leb, lt-leb}
 use Rattle.ground.proofs.Cases.{if, below-or, same-or}
 use Rattle.boxes.specs.Sums.{only}
-use Rattle.tables.proofs.Shifts.{ShiftsAt, stays-at, moved-afresh}
+use Rattle.tables.specs.Parts.{ShiftsAt}
+use Rattle.tables.proofs.Shifts.{stays-at, moved-afresh}
 use Rattle.sheet.specs.Limits.{mostMarks, entries, amountOk}
 use Rattle.sheet.specs.Record.{Record, Table, outside-counts, held-seconds, quantity, outOf, sheetWith, sheetFrom, sheetOf}
 use Rattle.sheet.specs.Calls.{answered, classShift, amountShift, moveOf, shiftIn, movedSheet, didOf}

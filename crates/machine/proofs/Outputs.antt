@@ -6,19 +6,8 @@ use Rattle.ground.specs.Areas.{Wrote}
 use Rattle.ground.proofs.Areas.{wrote-settled}
 use Rattle.machine.specs.Rows.{Row, rows}
 use Rattle.machine.specs.Machine.{Machine, Onward, stopped, line, Output}
+use Rattle.machine.specs.Answers.{OneAnswer, SomeAnswer}
 use Rattle.machine.specs.Pieces.{Position, in-line, stateIn, Takes, none, byte, newline, Finishes, ended, cut-off, FedBy, FinishedBy}
-
--- no line in a state leads to two states or prints two texts, and no end of the input prints two
-pub record OneAnswer (M : Machine) : Type 0 where
-  pub step : {k : ℕ} {s t u : M .State} {row : Row} {a b : List ℕ} → M .step k s row t a → M .step k s row u b → (t ≡ u) × (a ≡ b)
-  pub stop : {s : M .State} {a b : List ℕ} → M .stop s a → M .stop s b → a ≡ b
-
--- in the states that it can be in, every line and every end of the input has an answer
-pub record SomeAnswer (M : Machine) : Type 1 where
-  pub Can : M .State → Type 0
-  pub start : Can (M .start)
-  pub step : (k : ℕ) (s : M .State) (row : Row) → Can s → (t : M .State) × (now : List ℕ) × M .step k s row t now × Can t
-  pub stop : (s : M .State) → Can s → (text : List ℕ) × M .stop s text
 
 module _ {M : Machine} (one : OneAnswer M) where
   onward-one : {k : ℕ} {s : M .State} {l : List Row} {a b : List ℕ} → Onward M k s l a → Onward M k s l b → a ≡ b

@@ -1,4 +1,5 @@
 pub mod Rows
 pub mod Machine
+pub mod Answers
 pub mod Pieces
 pub mod AtHand

@@ -1,7 +1,6 @@
 -- The lists that an opened sheet is worked out from: the same number for each combination.
 use Prim.Native.Nat.{ℕ, _^_, _<_, _≤_}
 use mathlib.Core.Path.{_≡_, ap₂}
-use mathlib.Core.List.{List}
 use native.Mathlib.Nat.{pow-le-pow-right, one-le-pow}
 use native.Mathlib.Omega.{arith}
 use lib.ListN.{replicate, getD-replicate, length-replicate}
@@ -11,7 +10,7 @@ use Rattle.tables.specs.Tables.{entry}
 use Rattle.tables.proofs.Entries.{afresh-ext}
 use Rattle.sheet.proofs.Tests.{size-fits}
 use Rattle.sheet.specs.declared.Sheet.{Sheet}
-use Rattle.sheet.specs.Record.{sheetFrom}
+use Rattle.sheet.specs.Record.{sheetFrom, sheetWith}
 use Rattle.sheet.specs.Parts.{Addable}
 
 pub combinations-fit : (m : ℕ) → m ≤ 5 → 2 ^ m ≤ 32
@@ -33,4 +32,4 @@ same-addable m x l lx =
 -- a sheet is the same worked out from what is the same of each combination
 pub sheet-same : (n m : ℕ) (f f′ g g′ : ℕ → ℕ) → ((c : ℕ) → c < 2 ^ m → f c ≡ f′ c) → ((c : ℕ) → c < 2 ^ m → g c ≡ g′ c)
     → _≡_ {A = Sheet} (sheetFrom n m f g) (sheetFrom n m f′ g′)
-sheet-same n m f f′ g g′ hf hg = ap₂ (λ (x y : List ℕ). record { marks = m; outside = x; held = y }) (afresh-ext n m f f′ hf) (afresh-ext n m g g′ hg)
+sheet-same n m f f′ g g′ hf hg = ap₂ (sheetWith m) (afresh-ext n m f f′ hf) (afresh-ext n m g g′ hg)

@@ -15,7 +15,7 @@ use Rattle.boxes.proofs.Choices.{through-lt, through-contains, single-contains}
 use Rattle.tables.specs.declared.Shift.{Shift}
 use Rattle.tables.specs.declared.Shift.the-variants.{Stays, Up, Down}
 use Rattle.tables.specs.Tables.{entry, own, afresh, shifted, moved, Shifts, Shifted, Sums}
-use Rattle.tables.specs.Parts.{staysOf, Bears, AllBear}
+use Rattle.tables.specs.Parts.{staysOf, Bears, AllBear, ShiftsAt}
 use Rattle.tables.proofs.Entries.{tab-length, tab-entry, tab-of, afresh-entry}
 
 -- one number
@@ -29,11 +29,6 @@ pub bears-shifts : (s : Shift) (x : ℕ) → Bears s x → Shifts s x (shifted s
 bears-shifts Stays x h = refl
 bears-shifts (Up d) x h = refl
 bears-shifts (Down d) x h = omega arith
-
--- g is f but for c, where it is shifted: what a move does to the quantity that a table keeps the sums of
-pub record ShiftsAt (m c : ℕ) (s : Shift) (f g : ℕ → ℕ) : Type 0 where
-  pub here : Shifts s (f c) (g c)
-  pub others : (x : ℕ) → x < 2 ^ m → (x ≡ c → ⊥) → g x ≡ f x
 
 -- nothing moves
 pub stays-at : (m c : ℕ) (f : ℕ → ℕ) → ShiftsAt m c Stays f f
