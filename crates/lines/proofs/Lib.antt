@@ -1,4 +1,3 @@
-pub mod Verbs
 pub mod Patterns
 pub mod Orders
 pub mod Settled

@@ -36,23 +36,6 @@ pub enum Amount {
     NoAmount,
 }
 
-// Whether the line begins with the verb.
-fn begins(line: &[u8], verb: &[u8]) -> bool
-    ensures { λ r. ⌜ Decides r (Begins (now (verb .entry)) (now (line .entry))) ⌝ }
-{
-    let mut i: usize = 0;
-    while i < verb.len() {
-        if line.len() <= i {
-            return false;
-        }
-        if verb[i] != line[i] {
-            return false;
-        }
-        i += 1;
-    }
-    true
-}
-
 // P: m characters 0 or 1, highest mark first; the last character is mark 0.
 fn read_pattern(part: &[u8], m: usize) -> Pattern
     requires { ⌜ m ≤ 8 ⌝ }
@@ -105,35 +88,35 @@ pub fn read(line: &[u8], m: usize) -> Order
     requires { ⌜ m ≤ 8 ⌝ }
     ensures { λ r. ⌜ Asked m (now (line .entry)) r ⌝ }
 {
-    if begins(line, b"in ") {
+    if ground::begins(line, b"in ") {
         let p = read_pattern(&line[3..], m);
         let Pattern::Combination(c) = p else {
             return Order::Unreadable;
         };
         return Order::Make(Call::Enter(c));
     }
-    if begins(line, b"out ") {
+    if ground::begins(line, b"out ") {
         let p = read_pattern(&line[4..], m);
         let Pattern::Combination(c) = p else {
             return Order::Unreadable;
         };
         return Order::Make(Call::Leave(c));
     }
-    if begins(line, b"recv ") {
+    if ground::begins(line, b"recv ") {
         let a = read_amount(&line[5..], m);
         let Amount::Seconds(c, d) = a else {
             return Order::Unreadable;
         };
         return Order::Make(Call::Receive(c, d));
     }
-    if begins(line, b"gone ") {
+    if ground::begins(line, b"gone ") {
         let a = read_amount(&line[5..], m);
         let Amount::Seconds(c, d) = a else {
             return Order::Unreadable;
         };
         return Order::Make(Call::Withdraw(c, d));
     }
-    if begins(line, b"end") {
+    if ground::begins(line, b"end") {
         if line.len() == 3 {
             return Order::End;
         }
@@ -145,7 +128,7 @@ pub fn read(line: &[u8], m: usize) -> Order
 pub fn read_marks(line: &[u8]) -> First
     ensures { λ r. ⌜ Opens (now (line .entry)) r ⌝ }
 {
-    if !begins(line, b"marks ") {
+    if !ground::begins(line, b"marks ") {
         return First::NotMarks;
     }
     if line.len() != 7 {

@@ -16,11 +16,15 @@ abbrev pub readOf : ℕ → Outcome → Read
 readOf n (good r) = record { number = 0; place = 0; sheet = sheetOf n r }
 readOf n (refused number place) = record { number = number; place = place; sheet = sheetOf n (opened 1) }
 
--- the answer to some bytes is that of what they read as
-pub record Reads (most n : ℕ) (t : List ℕ) (answer : Read) : Type 0 where
+-- the answer to some bytes is that of what they read as, whichever way of reading R says it
+pub record ReadBy (R : Outcome → Type 0) (n : ℕ) (answer : Read) : Type 0 where
   pub outcome : Outcome
-  pub run : Reading most t outcome
+  pub run : R outcome
   pub is : answer ≡ readOf n outcome
+
+-- by the stored form
+abbrev pub Reads : ℕ → ℕ → List ℕ → Read → Type 0
+Reads most n t answer = ReadBy (Reading most t) n answer
 
 -- Writing a sheet to the lent bytes `out`: 7 as for the total; 5 exactly if room is below the length of the form; else the form stands in front, and
 -- the bytes behind it stay. A refused call leaves every byte.

@@ -3,6 +3,9 @@ ghost use mathlib.Core.Path.{_≡_};
 ghost use Prim.Native.Nat.{_≤_};
 ghost use Rattle.stored.specs.Sections.{bytesBehind};
 ghost use Rattle.stored.specs.Parts.{unset};
+ghost use Rattle.stored.specs.Fields.{refused};
+ghost use Rattle.stored.specs.Answers.{readOf};
+ghost use Rattle.sheet.specs.Limits.{entries};
 use sheet::Sheet;
 
 // What reading gives: the number of 01's table, the place, which is 0 for every number but 10, and the sheet.
@@ -10,6 +13,19 @@ pub struct Read {
     pub number: u64,
     pub place: u64,
     pub sheet: Sheet,
+}
+
+impl Read {
+    // A refused reading: the number and the place, with the sheet of an opened one-mark class.
+    pub fn refused(number: u64, place: usize) -> Read
+        ensures { λ r. ⌜ r ≡ readOf entries (refused number place) ⌝ }
+    {
+        Read {
+            number,
+            place: place as u64,
+            sheet: Sheet::opened(1),
+        }
+    }
 }
 
 // The sections of the form: the combinations in the class, and those that hold seconds.

@@ -2,7 +2,7 @@
 use mathlib.Core.Path.{refl}
 use borrow.Author.Needs.{needs}
 use Rattle.lines.proofs.Orders.{Verb, enter, leave, receive, withdraw, end, word, enters, leaves, receives, withdraws, enter-unsaid, leave-unsaid, receive-unsaid, withdraw-unsaid, asked-said, asked-unsaid, asked-end, asked-more, asked-nothing}
-use Rattle.lines.proofs.Verbs.{begun-long, behind}
+use Rattle.ground.proofs.Beginnings.{begun-long, behind}
 use Rattle.ground.specs.Texts.{ascii, Begins}
 use Rattle.ground.proofs.Cases.{denied}
 use Rattle.lines.proofs.read.Statement.{statement}

@@ -2,8 +2,8 @@
 use mathlib.Core.Path.{ap}
 use borrow.Author.Needs.{needs}
 use Rattle.sheet.specs.declared.Sheet.{Sheet}
-use Rattle.reading.proofs.refused.Statement.{statement}
-use Rattle.reading.proofs.refused.Tie as tie
+use Rattle.stored.proofs.Read.refused.Statement.{statement}
+use Rattle.stored.proofs.Read.refused.Tie as tie
 
 opened-requires : tie.Need-opened-requires
 opened-requires c κs = search needs
