@@ -1,5 +1,5 @@
 -- What a PLA text says (02, Q-1): its lines judged in order. Largest marks are a parameter.
-use Prim.Native.Nat.{ℕ, _+_, _≤_, _<_}
+use Prim.Native.Nat.{ℕ, _+_}
 use mathlib.Core.Path.{_≡_}
 use mathlib.Core.Bool.{Bool, true, false, not, cond, _&&_}
 use mathlib.Core.List.{List, [], _∷_, _++_}
@@ -76,9 +76,9 @@ pub data Run (most size : ℕ) : Said → ℕ → List (List ℕ) → Outcome �
   taken : {s u : Said} {at : ℕ} {line : List ℕ} {rest : List (List ℕ)} {x : Saying} {o : Outcome} → Says (s .inputs) (wordsOf line) x
       → judge most size s at x ≡ on u → Run most size u (at + length line + 1) rest o → Run most size s at (line ∷ rest) o
 
--- all the lines
-abbrev pub PlaSays : ℕ → List ℕ → Outcome → Type 0
-PlaSays most t o = Run most (length t) nothingSaid 0 (linesOf t) o
+-- the text t says so: all its lines
+pub record PlaSays (most : ℕ) (t : List ℕ) (o : Outcome) : Type 0 where
+  pub run : Run most (length t) nothingSaid 0 (linesOf t) o
 
 -- some line before `.e` is a cube of m inputs that contains c
 pub data Drawn (m c : ℕ) : List (List ℕ) → Type 0 where
