@@ -1,7 +1,7 @@
 -- Sets of combinations as numbers, a bit for each: what `&`, `|`, `!` and `trailing_zeros` do to them, bit by bit.
 use mathlib.Core.Path.{_≡_, refl, sym, ap, _∙_}
 use mathlib.Core.Bool.{Bool, true, false, not, _&&_, _||_}
-use Prim.Native.Nat.{ℕ, zero, suc, _-_, _/_, _%_, _^_, _<_, _≤_, min, max, zero-le}
+use Prim.Native.Nat.{ℕ, zero, suc, _+_, _*_, _-_, _/_, _%_, _^_, _<_, _≤_, min, max, zero-le}
 use native.Mathlib.Nat.{pow-suc, not-suc-le-zero, div-one}
 use native.Mathlib.Numerals.{one-add}
 use native.Mathlib.Omega.{arith}
@@ -78,6 +78,27 @@ unfolding has
 has-shr zero u = ap (λ (x : ℕ). eqb (x % 2) 1) (sym (div-one u))
 has-shr (suc c) u = has-shr c (u / 2) ∙ ap (λ (x : ℕ). eqb (x % 2) 1) (shr-shr u 1 c ∙ ap (λ (k : ℕ). u / 2 ^ k) (one-add c))
 
+-- bit c put on top of a set below it
+pub has-top : (c u : ℕ) → u < 2 ^ c → has (1 * 2 ^ c + u) c ≡ true
+unfolding has
+has-top zero u l = eq-eqb ((1 * 2 ^ 0 + u) % 2) 1 (omega arith)
+has-top (suc c) u l =
+    let p = pow-suc 2 c in
+    let h : (1 * 2 ^ suc c + u) / 2 ≡ 1 * 2 ^ c + u / 2 = omega arith in
+    rw h (has-top c (u / 2) (omega arith))
+
+pub has-under : (c u k : ℕ) → u < 2 ^ c → k < c → has (1 * 2 ^ c + u) k ≡ has u k
+unfolding has
+has-under zero u k l h = absurd (omega arith)
+has-under (suc c) u zero l h =
+    let p = pow-suc 2 c in
+    let e : (1 * 2 ^ suc c + u) % 2 ≡ u % 2 = omega arith in
+    ap (λ (x : ℕ). eqb x 1) e
+has-under (suc c) u (suc k) l h =
+    let p = pow-suc 2 c in
+    let e : (1 * 2 ^ suc c + u) / 2 ≡ 1 * 2 ^ c + u / 2 = omega arith in
+    rw e (has-under c (u / 2) k (omega arith) (omega arith))
+
 -- ---- sets with the same bits are one
 no-bits : (b : ℕ) → ((c : ℕ) → has b c ≡ false) → b ≡ 0
 unfolding has
@@ -132,13 +153,13 @@ zeros-has (suc k) u h n = below-or (u % 2) 1
     (λ l. let p = pow-suc 2 k in ap (has u) (even-step k u l) ∙ zeros-has k (u / 2) (omega arith) (λ z. n (omega arith)))
     (λ l. ap (has u) (odd-step k u l) ∙ eq-eqb (u % 2) 1 (omega arith))
 
-zeros-below : (k u c : ℕ) → c < trailingZeros k u → has u c ≡ false
+pub zeros-below : (k u c : ℕ) → c < trailingZeros k u → has u c ≡ false
 unfolding has trailingZeros
 zeros-below zero u c h = absurd (not-suc-le-zero h)
 zeros-below (suc k) u zero h = below-or (u % 2) 1 (λ l. ne-eqb (u % 2) 1 (λ (z : u % 2 ≡ 1). omega arith)) (λ l. absurd (omega (arith, odd-step k u l, h)))
 zeros-below (suc k) u (suc c) h = below-or (u % 2) 1 (λ l. zeros-below k (u / 2) c (omega (arith, even-step k u l, h))) (λ l. absurd (omega (arith, odd-step k u l, h)))
 
--- where the set is not empty, `trailing_zeros` is its lowest combination
+-- where the set is not empty, `trailing_zeros` is in it
 module _ (m u : ℕ) (wide : u < 2 ^ 32) (small : u < 2 ^ (2 ^ m)) (some : u ≡ 0 → ⊥) where
   pub zeros-needed : has u (trailingZeros 32 u) ≡ true
   zeros-needed = zeros-has 32 u wide some
