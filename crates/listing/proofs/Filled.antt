@@ -1,42 +1,19 @@
 -- The class as bits, combination by combination: what stands after those below c. And what a combination adds to the total.
-use Prim.Native.Nat.{ℕ, zero, suc, _+_, _*_, _/_, _%_, _^_, _<_, _≤_}
+use Prim.Native.Nat.{ℕ, _+_, _*_, _^_, _<_, _≤_}
 use mathlib.Core.Path.{_≡_, sym, _∙_, ap, fun-ext}
 use mathlib.Core.Bool.{Bool, true, false, _&&_}
-use native.Mathlib.Nat.{pow-suc}
+use mathlib.Core.List.{List}
 use native.Mathlib.Omega.{arith}
 use lib.Dec.{eqb, ltb}
-use borrow.Author.Tests.{eq-eqb, lt-ltb, le-ltb}
+use borrow.Author.Tests.{lt-ltb, le-ltb}
 use Rattle.ground.proofs.Cases.{below-or, same-or}
 use Rattle.boxes.proofs.Numbers.{power-next}
-use mathlib.Core.List.{List}
-use Rattle.tables.specs.Tables.{own}
 use Rattle.boxes.specs.Sums.{only}
+use Rattle.sets.specs.Sets.{has}
+use Rattle.sets.proofs.Bits.{has-zero, has-high, has-top, has-under}
+use Rattle.tables.specs.Tables.{own}
 use Rattle.sheet.specs.Sound.{classOf}
 use Rattle.listing.specs.Listing.{taken}
-use Rattle.seek.specs.Answer.{has}
-use Rattle.seek.proofs.Bits.{has-zero, has-high}
-
--- bit c put on top of a set below it
-
-has-top : (c u : ℕ) → u < 2 ^ c → has (1 * 2 ^ c + u) c ≡ true
-unfolding has
-has-top zero u l = eq-eqb ((1 * 2 ^ 0 + u) % 2) 1 (omega arith)
-has-top (suc c) u l =
-    let p = pow-suc 2 c in
-    let h : (1 * 2 ^ suc c + u) / 2 ≡ 1 * 2 ^ c + u / 2 = omega arith in
-    rw h (has-top c (u / 2) (omega arith))
-
-has-under : (c u k : ℕ) → u < 2 ^ c → k < c → has (1 * 2 ^ c + u) k ≡ has u k
-unfolding has
-has-under zero u k l h = absurd (omega arith)
-has-under (suc c) u zero l h =
-    let p = pow-suc 2 c in
-    let e : (1 * 2 ^ suc c + u) % 2 ≡ u % 2 = omega arith in
-    ap (λ (x : ℕ). eqb x 1) e
-has-under (suc c) u (suc k) l h =
-    let p = pow-suc 2 c in
-    let e : (1 * 2 ^ suc c + u) / 2 ≡ 1 * 2 ^ c + u / 2 = omega arith in
-    rw e (has-under c (u / 2) k (omega arith) (omega arith))
 
 -- the combinations whose own count is 0
 abbrev pub inside : ℕ → List ℕ → ℕ → Bool

@@ -8,7 +8,8 @@ use lib.ListN.{length, take, drop, length-take, length-append}
 use lib.Seq.{take-append-le}
 use Rattle.ground.specs.Areas.{laid, Wrote}
 use Rattle.lists.specs.Lists.{Fits, FirstShortest}
-use Rattle.seek.specs.Answer.{has, Sought}
+use Rattle.sets.specs.Sets.{has}
+use Rattle.seek.specs.Answer.{Sought}
 use Rattle.seek.specs.declared.Found.{Found}
 use Rattle.seek.specs.declared.Found.the-variants.{Boxes, Nothing}
 use Rattle.listing.specs.Listing.{Searched, none, given}

@@ -6,7 +6,7 @@ ghost use Rattle.sheet.specs.Limits.{mostMarks, entries};
 ghost use Rattle.sheet.specs.Sound.{ClassReady, Ready, classOf, recordOf};
 ghost use Rattle.boxes.specs.Sums.{sum};
 ghost use Rattle.tables.specs.Tables.{own};
-ghost use Rattle.seek.specs.Answer.{has};
+ghost use Rattle.sets.specs.Sets.{has};
 ghost use Rattle.listing.specs.Listing.{taken, totalOf, Searched, Listed, Totalled};
 use boxes;
 use seek;

@@ -21,9 +21,9 @@ use Rattle.lists.specs.Pottosin.{Interval, Independent}
 use Rattle.lists.proofs.Count.{lines-upto}
 use Rattle.lists.proofs.Fit.{Inside}
 use Rattle.lists.proofs.Pottosin.{fits-independent}
-use Rattle.seek.specs.Answer.{setMarks, has}
-use Rattle.seek.specs.Steps.{valueAt, weight, whole, Certified, Spare}
-use Rattle.seek.proofs.Bits.{has-and}
+use Rattle.sets.specs.Sets.{setMarks, has, valueAt}
+use Rattle.sets.proofs.Bits.{has-and}
+use Rattle.seek.specs.Steps.{weight, whole, Certified, Spare}
 
 -- what f gives where p holds
 abbrev pub given : (ℕ → Bool) → (ℕ → ℕ) → ℕ → ℕ

@@ -1,5 +1,4 @@
 pub mod Bits
-pub mod Computed
 pub mod Cost
 pub mod Turn
 pub mod Settled

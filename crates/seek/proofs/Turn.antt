@@ -17,9 +17,10 @@ use Rattle.ground.proofs.Cases.{clash, below-or}
 use Rattle.lists.specs.Lists.{lowestOf, FirstShortest, AtLeast}
 use Rattle.lists.proofs.Fit.{less, Inside, fits-cons}
 use Rattle.lists.proofs.Lay.{Tried, Longer, tried-next, longer-out, longer-deep, least-rest, laid-shortest, first-empty, some-box, tried-all}
-use Rattle.seek.specs.Answer.{setMarks, has}
-use Rattle.seek.specs.Steps.{valueAt, Reached, Node}
-use Rattle.seek.proofs.Bits.{has-zero, has-less, inside-yes, inside-no, zeros-needed, zeros-lowest, zeros-lt}
+use Rattle.sets.specs.Sets.{setMarks, has, valueAt}
+use Rattle.sets.proofs.Bits.{has-zero, zeros-needed, zeros-lt}
+use Rattle.seek.specs.Steps.{Reached, Node}
+use Rattle.seek.proofs.Bits.{has-less, inside-yes, inside-no, zeros-lowest}
 
 -- what the answer yes says
 pub reached-yes : (m : ℕ) (need room : ℕ → Bool) (left : ℕ) (area : List ℕ) (r : Bool) → r ≡ true → Reached m need room left r area

@@ -1,21 +1,12 @@
 -- What the search answers, for sets of combinations told as numbers.
 use mathlib.Core.Bool.{Bool}
 use mathlib.Core.List.{List, []}
-use Prim.Native.Nat.{ℕ, zero, suc, _/_, _%_, _^_, _<_, _≤_}
-use lib.Dec.{eqb}
+use Prim.Native.Nat.{ℕ, _^_, _<_, _≤_}
 use lib.ListN.{length, take}
+use Rattle.sets.specs.Sets.{setMarks}
 use Rattle.lists.specs.Lists.{Fits, FirstShortest}
 use Rattle.seek.specs.declared.Found.{Found}
 use Rattle.seek.specs.declared.Found.the-variants.{Boxes, Nothing}
-
--- the most marks that are searched: a set of their combinations is a number of 32 bits
-abbrev pub setMarks : ℕ
-setMarks = 5
-
--- the combination c is in the set u: bit c is on
-unfoldable pub has : ℕ → ℕ → Bool
-has u zero = eqb (u % 2) 1
-has u (suc c) = has (u / 2) c
 
 -- the search may be asked: not too many marks, combinations of these, and an area for as many boxes as there are combinations
 abbrev pub Askable : ℕ → ℕ → List ℕ → Type 0

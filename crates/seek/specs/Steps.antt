@@ -3,23 +3,10 @@ use mathlib.Core.Path.{_≡_}
 use mathlib.Core.Bool.{Bool, true, false}
 use mathlib.Core.List.{List}
 use Prim.Native.Nat.{ℕ, _+_, _*_, _^_, _<_, _≤_}
-use lib.ListN.{length, take, getD}
+use lib.ListN.{length, take}
 use Rattle.boxes.specs.Sums.{sum, sumOver, only}
-use Rattle.boxes.specs.Boxes.{contains, single}
+use Rattle.sets.specs.Sets.{setMarks, has, valueAt, Sets, Singles}
 use Rattle.lists.specs.Lists.{Fits, AtLeast, FirstShortest}
-use Rattle.seek.specs.Answer.{setMarks, has}
-
--- what a table has at a place
-abbrev pub valueAt : List ℕ → ℕ → ℕ
-valueAt t b = getD t b 0
-
--- the table holds the set of each box over m marks
-abbrev pub Sets : ℕ → List ℕ → Type 0
-Sets m xs = (b : ℕ) → b < 3 ^ m → (valueAt xs b < 2 ^ 32) × ((c : ℕ) → has (valueAt xs b) c ≡ contains m b c)
-
--- the table holds the box of each single combination over m marks
-abbrev pub Singles : ℕ → List ℕ → Type 0
-Singles m xs = (c : ℕ) → c < 2 ^ m → valueAt xs c ≡ single m c
 
 -- where no list has fewer than `left` boxes: the first `left` of the area are the first shortest list, or every list has more
 abbrev pub Reached : ℕ → (ℕ → Bool) → (ℕ → Bool) → ℕ → Bool → List ℕ → Type 0

@@ -1,14 +1,12 @@
-// The search for the first shortest list. Sets of combinations are numbers, a bit for each combination.
+// The search for the first shortest list. Sets of combinations are numbers, a bit for each combination (`sets`).
 ghost use mathlib.Core.Path.{_≡_};
 ghost use Prim.Native.Nat.{_+_, _*_, _-_, _^_, _≤_, _<_};
 ghost use lib.ListN.{length};
 ghost use Rattle.boxes.specs.Boxes.{through};
 ghost use Rattle.lists.specs.Lists.{lowestOf};
-ghost use Rattle.seek.specs.Answer.{setMarks, has, Askable, Sought};
-ghost use Rattle.seek.specs.Steps.{Sets, Singles, Reached, Stage, Node, Certified, weight, valueAt};
-
-mod sets;
-
+ghost use Rattle.sets.specs.Sets.{setMarks, has, valueAt, Sets, Singles};
+ghost use Rattle.seek.specs.Answer.{Askable, Sought};
+ghost use Rattle.seek.specs.Steps.{Reached, Stage, Node, Certified, weight};
 use sets::SETS;
 use sets::SINGLES;
 

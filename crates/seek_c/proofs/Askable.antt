@@ -8,9 +8,10 @@ use native.Mathlib.Numerals.{add-one}
 use native.Mathlib.Omega.{arith}
 use lib.ListN.{length}
 use lib.Pow.{pow-pos}
+use Rattle.sets.specs.Sets.{setMarks, has}
 use Rattle.seek.specs.declared.Found.{Found}
 use Rattle.seek.specs.declared.Found.the-variants.{Boxes, Nothing}
-use Rattle.seek.specs.Answer.{setMarks, has, Askable, Sought}
+use Rattle.seek.specs.Answer.{Askable, Sought}
 use Rattle.seek_c.specs.Told.{Told}
 
 -- nothing is left after a shift by n exactly if the number is below 2 ^ n

@@ -2,9 +2,10 @@
 use mathlib.Core.Path.{_≡_}
 use mathlib.Core.List.{List}
 use Prim.Native.Nat.{ℕ, zero, suc}
+use Rattle.sets.specs.Sets.{has}
 use Rattle.seek.specs.declared.Found.{Found}
 use Rattle.seek.specs.declared.Found.the-variants.{Boxes, Nothing}
-use Rattle.seek.specs.Answer.{has, Askable, Sought}
+use Rattle.seek.specs.Answer.{Askable, Sought}
 
 -- what is found, told as the number of boxes and 1, or as 0
 abbrev pub foundOf : ℕ → Found

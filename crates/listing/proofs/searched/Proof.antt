@@ -5,7 +5,8 @@ use lib.ListN.{drop, length-take}
 use borrow.Author.Needs.{needs}
 use Rattle.listing.proofs.Given.{front-fits, front-size, said, searched-given, searched-none}
 use Rattle.seek.specs.declared.Found.the-variants.{Boxes}
-use Rattle.seek.specs.Answer.{has, Sought}
+use Rattle.sets.specs.Sets.{has}
+use Rattle.seek.specs.Answer.{Sought}
 use Rattle.listing.proofs.searched.Statement.{statement}
 use Rattle.listing.proofs.searched.Tie as tie
 

@@ -10,7 +10,7 @@ use borrow.Author.Needs.{needs}
 use borrow.Fn.Kinds.{In}
 use borrow.Fn.PlainCycle.{Measures, is, falls, and}
 use Rattle.lists.proofs.Lay.{Tried, tried-none}
-use Rattle.seek.specs.Answer.{has}
+use Rattle.sets.specs.Sets.{has}
 use Rattle.seek.proofs.Turn.{reached-yes, reached-no, none-left, one-left, left-lowest, left-lt, one-more, turn-out, turn-dear, turn-deep, turn-hit, turns-end, deeper}
 use Rattle.seek.proofs.cover.Reads as cover
 use Rattle.seek.proofs.cover.Kinds as cover-kinds

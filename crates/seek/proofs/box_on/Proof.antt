@@ -7,7 +7,7 @@ use lib.Pow.{pow-mono}
 use Rattle.boxes.specs.Boxes.{through}
 use Rattle.boxes.proofs.Numbers.{boxes-mono}
 use Rattle.boxes.proofs.Choices.{through-lt, through-or}
-use Rattle.seek.specs.Answer.{setMarks}
+use Rattle.sets.specs.Sets.{setMarks}
 use Rattle.seek.proofs.box_on.Statement.{statement}
 use Rattle.seek.proofs.box_on.Tie as tie
 

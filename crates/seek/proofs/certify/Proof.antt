@@ -6,8 +6,7 @@ use native.Mathlib.Omega.{arith}
 use lib.ListN.{length, length-set, getD}
 use borrow.Author.Needs.{needs}
 use Rattle.boxes.proofs.Numbers.{boxes-mono}
-use Rattle.seek.specs.Answer.{has}
-use Rattle.seek.specs.Steps.{valueAt}
+use Rattle.sets.specs.Sets.{has, valueAt}
 use Rattle.seek.proofs.Bits.{inside-no}
 use Rattle.seek.proofs.Cost.{Priced, priced-skip, priced-set, priced-all}
 use Rattle.seek.proofs.certify.Statement.{statement}

@@ -1,6 +1,6 @@
 -- By the certificate every list has more than k boxes, or the lists of k boxes cost no more than what is to spare.
 use borrow.Author.Needs.{needs}
-use Rattle.seek.specs.Answer.{has}
+use Rattle.sets.specs.Sets.{has}
 use Rattle.seek.proofs.Cost.{too-few, to-spare}
 use Rattle.seek.proofs.of_size.Statement.{statement}
 use Rattle.seek.proofs.of_size.Tie as tie

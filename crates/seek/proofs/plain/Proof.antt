@@ -1,5 +1,5 @@
 -- Each box costs the same, so that a list costs that for each of its boxes.
-use Rattle.seek.specs.Answer.{has}
+use Rattle.sets.specs.Sets.{has}
 use Rattle.seek.proofs.Cost.{plain-certified}
 use Rattle.seek.proofs.plain.Statement.{statement}
 use Rattle.seek.proofs.plain.Tie as tie

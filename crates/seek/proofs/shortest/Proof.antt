@@ -6,9 +6,9 @@ use lib.ListN.{length}
 use lib.Pow.{pow-mono}
 use borrow.Author.Needs.{needs}
 use Rattle.lists.specs.Lists.{AtLeast}
-use Rattle.seek.specs.Answer.{has}
-use Rattle.seek.proofs.Bits.{has-small}
-use Rattle.seek.proofs.Computed.{sets-hold, singles-hold}
+use Rattle.sets.specs.Sets.{has}
+use Rattle.sets.proofs.Bits.{has-small}
+use Rattle.sets.proofs.Computed.{sets-hold, singles-hold}
 use Rattle.seek.proofs.Turn.{reached-yes, reached-no}
 use Rattle.seek.proofs.Settled.{none-fits}
 use Rattle.seek.proofs.shortest.Statement.{statement}

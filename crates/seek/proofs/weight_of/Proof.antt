@@ -6,9 +6,8 @@ use native.Mathlib.Omega.{arith}
 use borrow.Author.Needs.{needs}
 use borrow.Author.Tests.{eq-eqb, ne-eqb}
 use Rattle.boxes.specs.Sums.{sum}
-use Rattle.seek.specs.Answer.{has}
-use Rattle.seek.specs.Steps.{valueAt}
-use Rattle.seek.proofs.Bits.{has-shr}
+use Rattle.sets.specs.Sets.{has, valueAt}
+use Rattle.sets.proofs.Bits.{has-shr}
 use Rattle.seek.proofs.Cost.{given, weight-none, weight-in, weight-out}
 use Rattle.seek.proofs.weight_of.Statement.{statement}
 use Rattle.seek.proofs.weight_of.Tie as tie

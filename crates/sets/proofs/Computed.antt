@@ -15,9 +15,8 @@ use Rattle.ground.proofs.Cases.{if, below-or, and-left, and-right}
 use Rattle.boxes.proofs.Boxes.{contains-combination}
 use Rattle.boxes.proofs.Numbers.{boxes-mono}
 use Rattle.boxes.proofs.Choices.{contains-wide, through-wide}
-use Rattle.seek.specs.Answer.{setMarks, has}
-use Rattle.seek.specs.Steps.{Sets, Singles}
-use Rattle.seek.proofs.Bits.{has-high}
+use Rattle.sets.specs.Sets.{setMarks, has, Sets, Singles}
+use Rattle.sets.proofs.Bits.{has-high}
 
 abbrev pub sets : List ℕ
 sets =

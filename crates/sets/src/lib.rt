@@ -1,4 +1,29 @@
-// The boxes' sets and the single boxes over five marks. A box below 3^m has the same combinations over any number of marks from m on.
+// Sets of combinations as numbers, a bit for each combination: bit c is on exactly if the combination c is in the set.
+ghost use mathlib.Core.Path.{_≡_};
+ghost use Prim.Native.Nat.{_^_, _≤_, _<_};
+ghost use Rattle.boxes.specs.Boxes.{contains};
+ghost use Rattle.sets.specs.Sets.{setMarks, has, Outs};
+
+// The combinations of the box b.
+pub fn set_of(m: usize, b: usize) -> u32
+    requires { ⌜ (m ≤ setMarks) × (b < 3 ^ m) ⌝ }
+    ensures { λ r. ⌜ (r < 2 ^ (2 ^ m)) × (has r ≡ contains m b) ⌝ }
+{
+    SETS[b]
+}
+
+// What each combination adds to the outside counts of a class: 0 where the class has it, and else 1.
+pub fn outs_of(class: u32) -> [u32; 32]
+    ensures { λ r. ⌜ Outs class r ⌝ }
+{
+    let mut outs = [0u32; 32];
+    for c in 0..32 {
+        outs[c] = 1 - (class >> c) % 2;
+    }
+    outs
+}
+
+// Two tables over five marks. A box below 3^m has the same combinations over any number of marks from m on.
 
 // The combinations of each box, a bit for each.
 pub const SETS: [u32; 243] = [
