@@ -124,9 +124,12 @@ on-same e = cc
 stop-not-on : {o : Outcome} {u : Said} → stop o ≡ on u → ⊥
 stop-not-on {o} {u} e = let z : _≡_ {A = ℕ} 0 1 = cc in omega arith
 
-went-on : (t : Bool) {s u : Said} {o : Outcome} → cond t (on s) (stop o) ≡ on u → (t ≡ true) × (s ≡ u)
-went-on true e = (refl, on-same e)
-went-on false e = absurd (stop-not-on e)
+went-on : (t : Bool) (s : Said) (o : Outcome) {u : Said} → cond t (on s) (stop o) ≡ on u → (t ≡ true) × (s ≡ u)
+went-on true s o e = (refl, on-same e)
+went-on false s o e = absurd (stop-not-on e)
+
+stop-same : {o u : Outcome} → stop o ≡ stop u → o ≡ u
+stop-same e = cc
 
 -- and an end that is good
 refused-not-good : {k p : ℕ} {r : Record} → refused k p ≡ good r → ⊥
@@ -178,9 +181,128 @@ end-drawn : {k m c : ℕ} {line : List ℕ} {rest : List (List ℕ)} → Says k 
 end-drawn (dot-e e) (here y q) = cube-not-end (says-one y (dot-e e))
 end-drawn (dot-e e) (later h d) = h (dot-e e)
 
-module _ {most size : ℕ} where
+-- a line that is no cube says the same in a text of any inputs; it is then no cube there, and not the end
+
+abbrev isCube : Saying → Bool
+isCube blank = false
+isCube (inputs n) = false
+isCube output = false
+isCube (count n) = false
+isCube (cube b) = true
+isCube end = false
+
+abbrev isEnd : Saying → Bool
+isEnd blank = false
+isEnd (inputs n) = false
+isEnd output = false
+isEnd (count n) = false
+isEnd (cube b) = false
+isEnd end = true
+
+in-any : {k : ℕ} {ws : List (List ℕ)} {x : Saying} → Says k ws x → isCube x ≡ false → (m : ℕ) → Says m ws x
+in-any (no-word e) f m = no-word e
+in-any (dot-i e) f m = dot-i e
+in-any (dot-o e) f m = dot-o e
+in-any (dot-p e) f m = dot-p e
+in-any (drawn l e) f m = clash refl f
+in-any (dot-e e) f m = dot-e e
+
+no-cube : {k : ℕ} {ws : List (List ℕ)} {x : Saying} → Says k ws x → isCube x ≡ false → (m b : ℕ) → Says m ws (cube b) → ⊥
+no-cube y f m b z = clash (ap isCube (says-one (in-any y f m) z)) f
+
+no-end : {k : ℕ} {ws : List (List ℕ)} {x : Saying} → Says k ws x → isCube x ≡ false → isEnd x ≡ false → (m : ℕ) → Says m ws end → ⊥
+no-end y f g m z = clash (ap isEnd (says-one (in-any y f m) z)) g
+
+-- what a line makes of the lines before: if it stops the reading well it is the end; if it goes on, `Right` stays, and the cubes are drawn
+module _ (most size : ℕ) where
+  stop-bad : {o : Outcome} {r : Record} {k p : ℕ} → stop (refused k p) ≡ stop o → o ≡ good r → ⊥
+  stop-bad j e = refused-not-good (stop-same j ∙ e)
+
+  unsaid : (t : Bool) (u : Said) (at : ℕ) {o : Outcome} {r : Record} → cond t (on u) (stop (refused 10 at)) ≡ stop o → o ≡ good r → ⊥
+  unsaid true u at j e = stop-not-on (sym j)
+  unsaid false u at j e = stop-bad j e
+
+  stops-well : (s : Said) (at : ℕ) (x : Saying) {o : Outcome} {r : Record} → judge most size s at x ≡ stop o → o ≡ good r → (x ≡ end) × (comesTo size s ≡ good r)
+  stops-well s at blank j e = absurd (stop-not-on (sym j))
+  stops-well s at (inputs n) {o} {r} j e = absurd (go (eqb (s .inputs) 0) (marksOk most n) _ j)
+    where
+      go : (t v : Bool) (u : Said) → cond t (cond v (on u) (stop (refused 1 0))) (stop (refused 10 at)) ≡ stop o → ⊥
+      go true true u j = stop-not-on (sym j)
+      go true false u j = stop-bad j e
+      go false v u j = stop-bad j e
+  stops-well s at output j e = absurd (unsaid (ltb 0 (s .inputs) && not (s .output)) _ at j e)
+  stops-well s at (count n) {o} {r} j e = absurd (go (isCounted (s .count)) _ j)
+    where
+      go : (t : Bool) (u : Said) → cond t (stop (refused 10 at)) (on u) ≡ stop o → ⊥
+      go true u j = stop-bad j e
+      go false u j = stop-not-on (sym j)
+  stops-well s at (cube b) j e = absurd (unsaid (s .output) _ at j e)
+  stops-well s at end j e = (refl, stop-same j ∙ e)
+
+  abbrev Behind : Said → List (List ℕ) → Record → Type 0
+  Behind u rest r = Right most u → Draws most u rest r
+
+  goes-on : (s u : Said) (at : ℕ) (line : List ℕ) (rest : List (List ℕ)) (x : Saying) {r : Record} → Right most s → Says (s .inputs) (wordsOf line) x
+      → judge most size s at x ≡ on u → Behind u rest r → Draws most s (line ∷ rest) r
+  goes-on s u at line rest blank {r} right y j behind =
+      other-line (no-cube y refl) (no-end y refl refl) refl (λ h. refl) (λ h. h) (subst (λ (z : Said). Behind z rest r) (sym (on-same j)) behind right)
+  goes-on s u at line rest (inputs n) {r} right y j behind = go (eqb (s .inputs) 0) (marksOk most n) refl refl j
+    where
+      go : (t v : Bool) → eqb (s .inputs) 0 ≡ t → marksOk most n ≡ v
+          → cond t (cond v (on (record { inputs = n; output = s .output; count = s .count; cubes = s .cubes })) (stop (refused 1 0))) (stop (refused 10 at)) ≡ on u
+          → Draws most s (line ∷ rest) r
+      go true true z ok j =
+          let none : s .inputs ≡ 0 = eqb-true (s .inputs) 0 z in
+          other-line (no-cube y refl) (no-end y refl refl) refl (λ h. absurd (omega (arith, none, h))) (λ h. absurd (omega (arith, none, h)))
+          (subst (λ (z : Said). Behind z rest r) (sym (on-same j)) behind
+          (record { marks = λ h. ok; order = λ e. absurd (omega (arith, none, right .order e)) }))
+      go true false z ok j = absurd (stop-not-on j)
+      go false v z ok j = absurd (stop-not-on j)
+  goes-on s u at line rest output {r} right y j behind =
+      let w = went-on (ltb 0 (s .inputs) && not (s .output)) (record { inputs = s .inputs; output = true; count = s .count; cubes = s .cubes }) (refused 10 at) j in
+      other-line (no-cube y refl) (no-end y refl refl) refl (λ h. refl) (λ h. h)
+      (subst (λ (z : Said). Behind z rest r) (sym (w .1)) behind
+      (record { marks = right .marks; order = λ e. ltb-true 0 (s .inputs) (and-left _ _ (w .0)) }))
+  goes-on s u at line rest (count n) {r} right y j behind = go (isCounted (s .count)) j
+    where
+      go : (t : Bool) → cond t (stop (refused 10 at)) (on (record { inputs = s .inputs; output = s .output; count = counted n at; cubes = s .cubes })) ≡ on u
+          → Draws most s (line ∷ rest) r
+      go true j = absurd (stop-not-on j)
+      go false j =
+          other-line (no-cube y refl) (no-end y refl refl) refl (λ h. refl) (λ h. h)
+          (subst (λ (z : Said). Behind z rest r) (sym (on-same j)) behind (record { marks = right .marks; order = right .order }))
+  goes-on s u at line rest (cube b) {r} right y j behind =
+      let w = went-on (s .output) (record { inputs = s .inputs; output = true; count = s .count; cubes = s .cubes ++ b ∷ [] }) (refused 10 at) j in
+      cube-line b (right .order (w .0)) y refl refl
+      (subst (λ (z : Said). Behind z rest r) (sym (w .1)) behind (record { marks = right .marks; order = λ e. right .order (w .0) }))
+  goes-on s u at line rest end right y j behind = absurd (stop-not-on j)
+
   draws : {s : Said} {at : ℕ} {ls : List (List ℕ)} {o : Outcome} {r : Record} → Right most s → Run most size s at ls o → o ≡ good r → Draws most s ls r
   draws {s} right over e = at-end size s [] right (λ m c. nothing-behind) e
   draws right (unreadable n) e = absurd (refused-not-good e)
-  draws {s} {at} right (stopped {x = x} y j) e = ?
-  draws {s} {at} right (taken {x = x} y j z) e = ?
+  draws {s} {at} right (stopped {line = line} {rest = rest} {x = x} y j) e =
+      let w = stops-well s at x j e in
+      at-end size s (line ∷ rest) right (λ m c. end-drawn (subst (Says (s .inputs) (wordsOf line)) (w .0) y)) (w .1)
+  draws {s} {at} right (taken {u = u} {line = line} {rest = rest} {x = x} y j z) e = goes-on s u at line rest x right y j (λ w. draws w z e)
+
+-- the whole text
+
+text-draws : {most : ℕ} {t : List ℕ} {r : Record} → PlaSays most t (good r) → Draws most nothingSaid (linesOf t) r
+text-draws {most} {t} p =
+    draws most (length t) (record { marks = λ h. absurd (omega (arith, h)); order = λ e. clash e refl }) (p .run) refl
+
+-- 1 to `most` marks
+pub drawn-marks : {most : ℕ} {t : List ℕ} {r : Record} → PlaSays most t (good r) → marksOk most (r .marks) ≡ true
+drawn-marks {most} {t} {r} p = let d = text-draws p in ap (λ (x : Record). marksOk most (x .marks)) (d .is) ∙ d .right
+
+-- nothing is held
+pub drawn-times : {most : ℕ} {t : List ℕ} {r : Record} → PlaSays most t (good r) → (c : ℕ) → r .times c ≡ 0
+drawn-times p c = ap (λ (x : Record). x .times c) (text-draws p .is)
+
+-- THE CLASS IS THE UNION OF THE CUBES
+pub drawn-class : {most : ℕ} {t : List ℕ} {r : Record} → PlaSays most t (good r) → (c : ℕ) → Decides (r .class c) (Drawn (r .marks) c (linesOf t))
+unfolding covered
+drawn-class {most} {t} {r} p c =
+    let d = text-draws p in
+    subst (λ (x : Record). Decides (x .class c) (Drawn (x .marks) c (linesOf t))) (sym (d .is))
+    (record { yes = λ e. ⊎-elim (λ w. clash w refl) (λ w. w) (d .only-these c e); sure = d .lines c })

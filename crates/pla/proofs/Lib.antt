@@ -1,3 +1,5 @@
 pub mod Sayings
 pub mod Runs
 pub mod Drawings
+pub mod Sound
+pub mod Settled

@@ -29,7 +29,7 @@ use Rattle.stored.specs.Sections.{bytesBehind, standsIn, numberBehind}
 use Rattle.stored.specs.Form.{bytes, entryOf, entriesOf, section, form}
 use Rattle.stored.specs.declared.Section.{Section}
 use Rattle.stored.specs.declared.Section.the-variants.{Class, Held}
-use Rattle.stored.specs.Answers.{readOf, Reads, Writes, spoiled, short, written}
+use Rattle.stored.specs.Answers.{readOf, ReadBy, Reads, Writes, spoiled, short, written}
 use Rattle.stored.proofs.UpTo.{upTo-low}
 use Rattle.stored.proofs.Runs.{one}
 use Rattle.stored.proofs.Refusals.{never-done}
@@ -101,14 +101,17 @@ module _ (most n : ℕ) (long : 3 ^ most ≤ n) where
       let fits = boxes-fit m (s .marks) in
       record { marks = s .marks; class = class-sound n m fits (r .class); times = times-sound n m fits (r .times) (s .most-held) }
 
-  -- what is read is sound, and so is what is given with a refusal
-  pub read-sound : 1 ≤ most → (t : List ℕ) {a : Read} → Bytes t → Reads most n t a → Ready most (a .sheet)
+  -- what is read is sound, whichever way of reading, if it says what can be stored; and so is what is given with a refusal
+  pub read-by-sound : {R : Outcome → Type 0} {a : Read} → 1 ≤ most → ((r : Record) → R (good r) → Storable most r) → ReadBy R n a → Ready most (a .sheet)
   unfolding marksOk
-  read-sound h t {a} b x = subst (λ (y : Read). Ready most (y .sheet)) (sym (x .is)) (by (x .outcome) (x .run))
+  read-by-sound {R} h storable x = subst (λ (y : Read). Ready most (y .sheet)) (sym (x .is)) (by (x .outcome) (x .run))
     where
-      by : (o : Outcome) → Reading most t o → Ready most (readOf n o .sheet)
-      by (good r) y = sound r (is-form t b y .storable)
+      by : (o : Outcome) → R o → Ready most (readOf n o .sheet)
+      by (good r) y = sound r (storable r y)
       by (refused k p) y = sound (opened 1) (record { marks = rw (le-leb 1 most h); most-held = omega (arith, sum-zero (2 ^ 1)) })
+
+  pub read-sound : 1 ≤ most → (t : List ℕ) {a : Read} → Bytes t → Reads most n t a → Ready most (a .sheet)
+  read-sound h t b x = read-by-sound h (λ r y. is-form t b y .storable) x
 
   -- what is read as a record, or refused
   pub read-good : {t : List ℕ} {a : Read} → Reads most n t a → a .number ≡ 0 → (r : Record) × Reading most t (good r) × (a ≡ readOf n (good r))
