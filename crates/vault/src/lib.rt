@@ -8,7 +8,7 @@ ghost use Rattle.sheet.specs.Calls.{openOf, didOf, ClassSize};
 ghost use Rattle.sheet.specs.declared.Call.the-variants.{Enter, Leave, Receive, Withdraw};
 ghost use Rattle.listing.specs.Listing.{Listed, Totalled};
 ghost use Rattle.times.specs.Answers.{Answered};
-ghost use Rattle.vault.specs.Entries.{Put, Changes, Tells, Lends, Compared, KeptAt, same, replied, timeIn};
+ghost use Rattle.vault.specs.Entries.{Put, ChangesBy, Changes, Tells, Lends, Compared, KeptAt, same, replied, timeIn};
 ghost use Rattle.vault.specs.Parts.{AnswerTo};
 use sheet::Answer;
 use sheet::Call;
@@ -69,6 +69,24 @@ fn change(sheet: &[u8], call: Call, out: &mut [u8]) -> Reply
     }
     let s = read.sheet;
     put(s.did(call), out)
+}
+
+// What was read, written as it is; or the reading's refusal.
+fn rewritten(read: Read, out: &mut [u8]) -> Reply
+    requires { ⌜ Ready mostMarks (read .sheet) ⌝ }
+    ensures { λ r. ⌜ ChangesBy (λ a. a ≡ read) same (now (out .entry)) r (now (out .exit)) ⌝ }
+{
+    if read.number != 0 {
+        return unread(read);
+    }
+    let sheet = read.sheet;
+    put(
+        Answer {
+            number: 0,
+            sheet,
+        },
+        out,
+    )
 }
 
 // A kept number of the box b.
@@ -184,18 +202,7 @@ pub extern "C" fn vault_withdraw(
 pub extern "C" fn vault_copy(sheet: &[u8], out: &mut [u8]) -> Reply
     ensures { λ r. ⌜ Changes same (now (sheet .entry)) (now (out .entry)) r (now (out .exit)) ⌝ }
 {
-    let read = reading::read(sheet);
-    if read.number != 0 {
-        return unread(read);
-    }
-    let s = read.sheet;
-    put(
-        Answer {
-            number: 0,
-            sheet: s,
-        },
-        out,
-    )
+    rewritten(reading::read(sheet), out)
 }
 
 // The shortest list of the class.
