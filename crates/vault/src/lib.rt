@@ -80,13 +80,7 @@ fn rewritten(read: Read, out: &mut [u8]) -> Reply
         return unread(read);
     }
     let sheet = read.sheet;
-    put(
-        Answer {
-            number: 0,
-            sheet,
-        },
-        out,
-    )
+    put(Answer { number: 0, sheet }, out)
 }
 
 // A kept number of the box b.
