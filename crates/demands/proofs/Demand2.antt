@@ -42,10 +42,14 @@ lines m class l some small f =
 
 module _ (s : Sheet) where
   -- no class that counts tell has a number that is no combination
-  small : Small (s .marks) (recordOf s .class)
+  pub small : Small (s .marks) (recordOf s .class)
   small c e =
       below-or c (2 ^ s .marks) (λ l. l)
       (λ l. clash e (ap (λ (t : Bool). t && eqb (own (s .marks) (s .outside) c) 0) (le-ltb c (2 ^ s .marks) l)))
+
+  pub class-lines : {l : List ℕ} → ClassReady mostMarks s → FirstShortest (s .marks) (recordOf s .class) (recordOf s .class) l
+      → Lines (s .marks) (recordOf s .class) l
+  class-lines {l} w f = lines (s .marks) (recordOf s .class) l (some-marks mostMarks (s .marks) (w .marks)) small f
 
   given : {area later : List ℕ} {v : Value} → Listed mostMarks s area v later → ClassReady mostMarks s → 2 ^ s .marks ≤ length area → v .number ≡ 0
   given (Listed.spoiled n) r l = absurd (n r)
@@ -69,7 +73,7 @@ module _ (s : Sheet) where
   printed (Listed.searched w h (Searched.none n)) e = absurd (omega arith)
   printed (Listed.searched w h (Searched.given {l} f)) e = record {
     lines = l;
-    of-class = lines (s .marks) (recordOf s .class) l (some-marks mostMarks (s .marks) (w .marks)) small f;
+    of-class = class-lines w f;
     size = refl;
     stands = refl;
     seconds = λ t. seconds f t;

@@ -54,7 +54,7 @@ afresh-every n m f b l =
     (λ k. List·getD-eq-default (afresh n m f) 0 (omega (arith, tab-length n (λ x. sumIn m x f))) ∙ sym (sumIn-nothing m b f (omega arith)))
 
 module _ (r : Record) (g : Good r) where
-  kept-afresh : (t : Table) (b : ℕ) → entry (kept t (sheetOf entries r)) b ≡ sumIn (r .marks) b (quantity t r)
+  pub kept-afresh : (t : Table) (b : ℕ) → entry (kept t (sheetOf entries r)) b ≡ sumIn (r .marks) b (quantity t r)
   kept-afresh outside-counts b = afresh-every entries (r .marks) (quantity outside-counts r) b (boxes-fit (r .marks) (g .marks))
   kept-afresh held-seconds b = afresh-every entries (r .marks) (quantity held-seconds r) b (boxes-fit (r .marks) (g .marks))
 
@@ -101,10 +101,10 @@ open-accepted : (m : ℕ) → openOf mostMarks entries m .number ≡ 0 → marks
 open-accepted m z =
     if (marksOk mostMarks m) (λ e. e) (λ e. absurd (omega (arith, ap (λ (a : Answer). a .number) (open-refused mostMarks entries m e))))
 
-good-drawn : {t : List ℕ} {r : Record} → PlaSays mostMarks t (good r) → Good r
+pub good-drawn : {t : List ℕ} {r : Record} → PlaSays mostMarks t (good r) → Good r
 good-drawn p = record { marks = drawn-marks p; class = drawn-combination p; times = drawn-storable p .most-held }
 
-pla-drawn : {t : List ℕ} {r : Record} → PlaSays mostMarks t (good r) → (a : Read) → ReadsPla mostMarks entries t a → a ≡ readOf entries (good r)
+pub pla-drawn : {t : List ℕ} {r : Record} → PlaSays mostMarks t (good r) → (a : Read) → ReadsPla mostMarks entries t a → a ≡ readOf entries (good r)
 pla-drawn p a x = x .is ∙ ap (readOf entries) (says-one-outcome (x .run) p)
 
 begins-good : {s : Sheet} {r : Record} → Begins s r → Good r × (s ≡ sheetOf entries r)
