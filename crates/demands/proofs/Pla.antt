@@ -1,16 +1,18 @@
 -- A good text draws a record, and the sheet read is the one worked out from it; what the writer gives is the text of the one first shortest list.
-use Prim.Native.Nat.{ℕ, _^_, _<_}
+use Prim.Native.Nat.{ℕ, _-_, _/_, _%_, _^_, _<_}
 use mathlib.Core.Path.{_≡_, refl, sym, _∙_, ap, subst}
-use mathlib.Core.List.{List}
+use mathlib.Core.List.{List, []}
 use mathlib.Core.Logic.{_⊎_, ⊎-elim}
 use native.Mathlib.Omega.{arith}
 use lib.Dec.{eqb}
-use lib.ListN.{length}
+use lib.ListN.{length, getD}
 use Rattle.ground.specs.Decides.{Decides}
 use Rattle.ground.proofs.Cases.{clash}
 use Rattle.boxes.specs.Boxes.{contains, sumIn}
 use Rattle.boxes.specs.Sums.{only}
 use Rattle.boxes.proofs.Sums.{sum-ext, sum-zero, only-zero}
+use Rattle.print.specs.Texts.{sign}
+use Rattle.print.proofs.Patterns.{pattern-mark}
 use Rattle.sheet.specs.Limits.{mostMarks, entries}
 use Rattle.sheet.specs.Record.{Record, held-seconds, sheetOf}
 use Rattle.sheet.specs.Sound.{ClassReady, recordOf}
@@ -22,6 +24,7 @@ use Rattle.stored.specs.Answers.{readOf, Writes}
 use Rattle.stored.specs.declared.Read.{Read}
 use Rattle.stored.proofs.Trips.{told-agrees}
 use Rattle.histories.proofs.Travels.{five}
+use Rattle.pla.specs.Sayings.{cube, Says}
 use Rattle.pla.specs.Reading.{PlaSays}
 use Rattle.pla.specs.Writing.{plaText}
 use Rattle.pla.specs.Answers.{ReadsPla, WritesPla}
@@ -49,6 +52,9 @@ numbers : {t : List ℕ} {a : Read} → ReadsPla mostMarks entries t a → (a .n
 numbers x n =
     subst (λ (y : Read). ((y .number ≡ 1) × (y .place ≡ 0)) ⊎ (y .number ≡ 10)) (sym (x .is))
     (outcome-numbers (x .outcome) (x .run) (λ e. n (ap (λ (y : Read). y .number) (x .is) ∙ e)))
+
+leftmost : {m b : ℕ} {ws : List (List ℕ)} → Says m ws (cube b) → (i : ℕ) → i < m → getD (getD ws 0 []) (m - 1 - i) 0 ≡ sign (b / 3 ^ i % 3)
+leftmost {m} {b} (Says.drawn l e) i h = ap (λ (x : List (List ℕ)). getD (getD x 0 []) (m - 1 - i) 0) e ∙ pattern-mark m b i h
 
 -- a box of combinations that hold nothing holds nothing
 none-held : (m b : ℕ) (f : ℕ → ℕ) → ((c : ℕ) → f c ≡ 0) → sumIn m b f ≡ 0
@@ -139,6 +145,7 @@ pla = record {
   some = reads-pla-some mostMarks entries;
   one = reads-pla-settled;
   numbers = numbers;
+  leftmost = leftmost;
   read = read;
   entry-read = entry-read;
   refused = λ c. left (demand-1 .every-call (Made.vault-read-pla c));

@@ -1,12 +1,13 @@
 -- PLA FILES (02, Q-1). What a text says, line by line, is defined in pla/specs; here stands what was asked of reader and writer, a field for each sentence.
-use Prim.Native.Nat.{ℕ, _<_}
+use Prim.Native.Nat.{ℕ, _-_, _/_, _%_, _^_, _<_}
 use mathlib.Core.Path.{_≡_}
-use mathlib.Core.List.{List, _++_}
+use mathlib.Core.List.{List, [], _++_}
 use mathlib.Core.Logic.{_⊎_}
 use mathlib.Core.Bool.{true}
 use lib.Dec.{eqb}
-use lib.ListN.{length, drop}
+use lib.ListN.{length, getD, drop}
 use Rattle.ground.specs.Decides.{Decides}
+use Rattle.print.specs.Texts.{sign}
 use Rattle.tables.specs.Tables.{entry}
 use Rattle.sheet.specs.Limits.{mostMarks, entries, marksOk}
 use Rattle.sheet.specs.Record.{Record, sheetOf}
@@ -18,6 +19,7 @@ use Rattle.stored.specs.Fields.{good}
 use Rattle.stored.specs.Form.{form}
 use Rattle.stored.specs.declared.Read.{Read}
 use Rattle.pla.specs.Texts.{linesOf}
+use Rattle.pla.specs.Sayings.{cube, Says}
 use Rattle.pla.specs.Reading.{PlaSays, Drawn}
 use Rattle.pla.specs.Writing.{plaText}
 use Rattle.pla.specs.Answers.{ReadsPla, WritesPla}
@@ -59,6 +61,8 @@ pub record Pla : Type 0 where
   pub one : {t : List ℕ} {a b : Read} → ReadsPla mostMarks entries t a → ReadsPla mostMarks entries t b → a ≡ b
   pub numbers : {t : List ℕ} {a : Read} → ReadsPla mostMarks entries t a → (a .number ≡ 0 → ⊥)
       → ((a .number ≡ 1) × (a .place ≡ 0)) ⊎ (a .number ≡ 10)
+  -- the leftmost input is the highest mark: of a cube, the sign of mark i stands i places before the last, and tells digit i of its box
+  pub leftmost : {m b : ℕ} {ws : List (List ℕ)} → Says m ws (cube b) → (i : ℕ) → i < m → getD (getD ws 0 []) (m - 1 - i) 0 ≡ sign (b / 3 ^ i % 3)
   -- the sheet read has the union of the cubes as class and holds nothing
   pub read : {t : List ℕ} {a : Read} → ReadsPla mostMarks entries t a → a .number ≡ 0 → DrawnFrom t (a .sheet)
   pub entry-read : {t out later : List ℕ} {r : Reply} → ChangesBy (ReadsPla mostMarks entries t) same out r later → r .answer ≡ 0 → DrawnIn t out r later
