@@ -1,0 +1,5 @@
+pub mod Fronts
+pub mod FirstWord
+pub mod FirstLine
+pub mod Numbers
+pub mod Cubes
