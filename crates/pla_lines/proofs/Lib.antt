@@ -3,3 +3,4 @@ pub mod FirstWord
 pub mod FirstLine
 pub mod Numbers
 pub mod Cubes
+pub mod Hearing

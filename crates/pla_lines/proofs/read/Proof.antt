@@ -101,7 +101,7 @@ slice-aggregate-pair c = ?
 
 -- src/lib.rt:65:5
 pair-requires : tie.Need-pair-requires
-pair-requires c κs = search needs
+pair-requires c κs = ?
 
 -- src/lib.rt:38:1
 returns-5 : tie.Need-returns-5
