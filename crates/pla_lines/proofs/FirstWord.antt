@@ -10,9 +10,10 @@ use lib.Seq.{append-snoc}
 use borrow.Author.Tests.{eqb-true, not-true, not-false}
 use Rattle.ground.proofs.Cases.{if, clash}
 use Rattle.pla.specs.Texts.{betweenFrom, beforeComment, filled, isGap}
+use Rattle.pla_lines.specs.declared.words.Word.{Word}
 use Rattle.pla_lines.specs.Lines.{firstLine, wordsIn, isStop}
 use Rattle.pla_lines.specs.Parts.{Front, inWord, NextWord, none, some}
-use Rattle.pla_lines.proofs.Fronts.{front-first, front-next}
+use Rattle.pla_lines.proofs.Fronts.{front-first, front-next, from, from-drop}
 
 or-no-left : (x y : Bool) → (x || y) ≡ false → x ≡ false
 or-no-left true y e = e
@@ -94,3 +95,23 @@ pub next-word : (t : List ℕ) (n k : ℕ) → Front isGap t n → Front inWord 
 next-word t n zero f g = none refl (words-over n t f g)
 next-word t n (suc k) f g =
     some (omega arith) (omega (arith, f .inside, g .inside, length-drop n t)) (words-behind n t f ∙ words-first (suc k) (drop n t) g (omega arith))
+
+-- what the first word tells of all, with the bytes behind it as they are lent
+module _ {t : List ℕ} {w : Word} where
+  pub no-words : NextWord t w → w .size ≡ 0 → wordsIn t ≡ []
+  no-words (none z e) h = e
+  no-words (some l i e) h = absurd (omega arith)
+
+  pub gap-inside : NextWord t w → (w .size ≡ 0 → ⊥) → w .gap ≤ length t
+  gap-inside (none z e) h = absurd (h z)
+  gap-inside (some l i e) h = omega arith
+
+  pub size-inside : NextWord t w → (w .size ≡ 0 → ⊥) → w .size ≤ length (from (w .gap) t)
+  size-inside (none z e) h = absurd (h z)
+  size-inside (some l i e) h = omega (arith, ap length (from-drop (w .gap) t), length-drop (w .gap) t)
+
+  pub word-split : NextWord t w → (w .size ≡ 0 → ⊥) → wordsIn t ≡ take (w .size) (from (w .gap) t) ∷ wordsIn (from (w .size) (from (w .gap) t))
+  word-split (none z e) h = absurd (h z)
+  word-split (some l i e) h =
+      e ∙ ap (λ (x : List ℕ). take (w .size) x ∷ wordsIn (drop (w .size) x)) (sym (from-drop (w .gap) t))
+      ∙ ap (λ (x : List ℕ). take (w .size) (from (w .gap) t) ∷ wordsIn x) (sym (from-drop (w .size) (from (w .gap) t)))

@@ -39,5 +39,8 @@ pub front-next : {p : ℕ → Bool} {b : ℕ} {t : List ℕ} {n : ℕ} → Front
 front-next f = record { inside = omega (arith, f .inside); each = λ i h. f .each (suc i) (omega arith); last = λ h. f .last (omega arith) }
 
 -- the bytes from a place on, as they are lent
-pub lent-from : (n : ℕ) (t : List ℕ) → take (length t - n) (drop n t) ≡ drop n t
-lent-from n t = take-all (length t - n) (drop n t) (omega (arith, length-drop n t))
+abbrev pub from : ℕ → List ℕ → List ℕ
+from n t = take (length t - n) (drop n t)
+
+pub from-drop : (n : ℕ) (t : List ℕ) → from n t ≡ drop n t
+from-drop n t = take-all (length t - n) (drop n t) (omega (arith, length-drop n t))

@@ -26,6 +26,10 @@ said-long [] (dot-p e) other = absurd (omega (arith, ap length e))
 said-long [] (drawn l e) other = absurd (omega (arith, ap length e))
 said-long [] (dot-e e) other = absurd (omega (arith, ap length e))
 
+-- what stands behind a word, told otherwise
+pub behind-word : {ws us vs : List (List ℕ)} {a : List ℕ} → ws ≡ a ∷ us → us ≡ vs → ws ≡ a ∷ vs
+behind-word e f = cc
+
 -- lines that are not of two words
 
 module _ (m : ℕ) {ws : List (List ℕ)} where
