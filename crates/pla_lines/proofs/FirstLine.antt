@@ -1,15 +1,15 @@
 -- A text by its first line: it goes up to the first newline, and the other lines are those of the text behind the newline.
 use Prim.Native.Nat.{ℕ, zero, suc, _+_, _≤_, _<_}
 use mathlib.Core.Path.{_≡_, refl, sym, ap, _∙_}
-use mathlib.Core.Bool.{Bool, true, false, not}
+use mathlib.Core.Bool.{Bool, not}
 use mathlib.Core.List.{List, [], _∷_, _++_, append-nil}
 use native.Mathlib.Numerals.{add-one}
 use native.Mathlib.Omega.{arith}
-use lib.ListN.{length, getD, drop}
+use lib.ListN.{length, drop}
 use lib.Seq.{append-snoc}
 use borrow.Author.Tests.{not-true, not-false}
 use Rattle.ground.proofs.Cases.{if}
-use Rattle.pla.specs.Texts.{betweenFrom, beforeComment, filled, isNewline, linesOf, wordsOf}
+use Rattle.pla.specs.Texts.{betweenFrom, isNewline, linesOf}
 use Rattle.pla_lines.specs.Lines.{firstLine}
 use Rattle.pla_lines.specs.Parts.{Front}
 use Rattle.pla_lines.proofs.Fronts.{front-first, front-next}

@@ -1,14 +1,14 @@
 -- The words of a line from its front on: a gap is skipped, a word is what stands up to a gap or a stop, and behind a stop there is none.
 use Prim.Native.Nat.{ℕ, zero, suc, _+_, _≤_, _<_}
 use mathlib.Core.Path.{_≡_, refl, sym, ap, _∙_}
-use mathlib.Core.Bool.{Bool, true, false, not, _||_}
+use mathlib.Core.Bool.{Bool, true, false, _||_}
 use mathlib.Core.List.{List, [], _∷_, _++_, append-nil}
 use native.Mathlib.Omega.{arith}
 use lib.Dec.{eqb}
-use lib.ListN.{length, getD, take, drop, length-drop}
+use lib.ListN.{length, take, drop, length-drop}
 use lib.Seq.{append-snoc}
 use borrow.Author.Tests.{eqb-true, not-true, not-false}
-use Rattle.ground.proofs.Cases.{if, clash}
+use Rattle.ground.proofs.Cases.{if}
 use Rattle.pla.specs.Texts.{betweenFrom, beforeComment, filled, isGap}
 use Rattle.pla_lines.specs.declared.words.Word.{Word}
 use Rattle.pla_lines.specs.Lines.{firstLine, wordsIn, isStop}
@@ -37,6 +37,9 @@ going-on b t e = rw (or-no-left (eqb b 10) (eqb b 35) e, or-no-right (eqb b 10) 
 gap-no-stop : (b : ℕ) → isGap b ≡ true → isStop b ≡ false
 gap-no-stop b e = if (eqb b 32) (λ y. ap isStop (eqb-true b 32 y)) (λ n. ap isStop (eqb-true b 9 (rw n at e)))
 
+stop-else : (b : ℕ) → inWord b ≡ false → isGap b ≡ false → isStop b ≡ true
+stop-else b e n = rw n at (not-false (isGap b || isStop b) e)
+
 -- nothing, a stop or a gap in front
 
 words-none : wordsIn [] ≡ []
@@ -58,7 +61,7 @@ words-behind (suc n) (b ∷ t) f = words-gap b t (front-first f) ∙ words-behin
 
 words-over : (n : ℕ) (t : List ℕ) → Front isGap t n → Front inWord (drop n t) 0 → wordsIn t ≡ []
 words-over zero [] f g = words-none
-words-over zero (b ∷ t) f g = words-stop b t (rw (f .last (omega arith)) at (not-false (isGap b || isStop b) (g .last (omega arith))))
+words-over zero (b ∷ t) f g = words-stop b t (stop-else b (g .last (omega arith)) (f .last (omega arith)))
 words-over (suc n) [] f g = absurd (omega (arith, f .inside))
 words-over (suc n) (b ∷ t) f g = words-gap b t (front-first f) ∙ words-over n t (front-next f) g
 
@@ -76,7 +79,7 @@ word-over c w [] f = refl
 word-over c w (b ∷ t) f =
     if (isGap b)
     (λ y. rw (going-on b t (gap-no-stop b y), y))
-    (λ n. let s = rw n at (not-false (isGap b || isStop b) (f .last (omega arith))) in rw (stopped b t s))
+    (λ n. rw (stopped b t (stop-else b (f .last (omega arith)) n)))
 
 word-on : (c : ℕ) (w : List ℕ) (n : ℕ) (t : List ℕ) → Front inWord t n
     → filled (betweenFrom isGap (c ∷ w) (beforeComment (firstLine t))) ≡ (c ∷ w ++ take n t) ∷ wordsIn (drop n t)

@@ -1,5 +1,5 @@
 -- The words are taken off one by one (`word-split`); each way out is the law of how many there are.
-use mathlib.Core.Path.{refl, sym, subst}
+use mathlib.Core.Path.{sym, subst}
 use mathlib.Core.List.{List}
 use Prim.Native.Nat.{ℕ}
 use lib.Seq.{length-take-le}
