@@ -87,3 +87,17 @@ module _ (m : ℕ) (l : List ℕ) (i : ℕ) (h : i < length l) where
       let t = cubeLines m (take i l) in
       let w = wrote-then (wrote-then p q (omega (arith, line-room, pattern-length m b))) r (omega (arith, line-room, pattern-length m b, length-append t (pattern m b))) in
       wrote-text (append-assoc t (pattern m b) (ascii " 1\n") ∙ ap (λ (x : ℕ). t ++ (pattern m x ++ ascii " 1\n")) e ∙ sym lines-more) w
+
+-- the text, from its seven pieces
+pub text-put : (m : ℕ) (l : List ℕ) {out o₁ o₂ o₃ o₄ o₅ o₆ o₇ : List ℕ} {r₁ r₂ r₃ r₄ r₅ r₆ r₇ : ℕ} → length (plaText m l) ≤ length out
+    → Wrote out 0 (ascii ".i ") r₁ o₁ → Wrote o₁ r₁ (decimal m) r₂ o₂ → Wrote o₂ r₂ (ascii "\n.o 1\n.p ") r₃ o₃ → Wrote o₃ r₃ (decimal (length l)) r₄ o₄
+    → Wrote o₄ r₄ (ascii "\n") r₅ o₅ → Wrote o₅ r₅ (cubeLines m l) r₆ o₆ → Wrote o₆ r₆ (ascii ".e\n") r₇ o₇ → Wrote out 0 (plaText m l) r₇ o₇
+unfolding plaText
+text-put m l room p₁ p₂ p₃ p₄ p₅ p₆ p₇ =
+    let long = text-length m l in
+    let w₂ = wrote-then p₁ p₂ (omega arith) in
+    let w₃ = wrote-then w₂ p₃ (omega arith) in
+    let w₄ = wrote-then w₃ p₄ (omega arith) in
+    let w₅ = wrote-then w₄ p₅ (omega arith) in
+    let w₆ = wrote-then w₅ p₆ (omega arith) in
+    wrote-then w₆ p₇ (omega arith)
