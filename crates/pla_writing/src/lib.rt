@@ -42,7 +42,7 @@ fn put_text(out: &mut [u8], m: usize, list: &[u8]) -> usize
 
 // How long the text is of a list of k boxes over m marks.
 fn text_size(m: usize, k: usize) -> usize
-    requires { ⌜ (1 ≤ m) × (m ≤ mostMarks) × (k ≤ 32) ⌝ }
+    requires { ⌜ (m ≤ mostMarks) × (k ≤ 32) ⌝ }
     ensures { λ r. ⌜ TextSize m k r ⌝ }
 {
     let digits = if k < 10 { 1 } else { 2 };
