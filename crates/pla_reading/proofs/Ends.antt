@@ -1,5 +1,5 @@
 -- The end of the input: which answer what is kept comes to, and the sheet of the set of combinations that the cubes have.
-use Prim.Native.Nat.{ℕ, _^_, _≤_, _<_}
+use Prim.Native.Nat.{ℕ, _+_, _^_, _≤_, _<_}
 use mathlib.Core.Path.{_≡_, refl, sym, ap, subst, _∙_}
 use mathlib.Core.Bool.{Bool, true, false, not, _&&_, and-false}
 use mathlib.Core.List.{List}
@@ -26,7 +26,7 @@ use Rattle.pla_reading.specs.declared.said.Said.{Said}
 use Rattle.pla_reading.specs.Parts.{KeepsCount, Keeps}
 
 -- a number that was capped is the number of the cubes exactly if the number is
-capped-same : (n k : ℕ) → k < 2 ^ 63 → eqb (capped n) k ≡ eqb n k
+capped-same : (n k : ℕ) → k + 1 < 2 ^ 64 → eqb (capped n) k ≡ eqb n k
 capped-same n k l =
     same-or n k
     (λ e. eq-eqb (capped n) k (omega (arith, e, l)) ∙ sym (eq-eqb n k e))
@@ -35,7 +35,7 @@ capped-same n k l =
 abbrev miscounted : Bool → ℕ → ℕ → Bool
 miscounted is v k = is && not (eqb v k)
 
-counts-well : (r : Record) (c : Count) (k : ℕ) (is : Bool) (v p : ℕ) → KeepsCount c is v p → k < 2 ^ 63 → miscounted is v k ≡ false → agreed r k c ≡ good r
+counts-well : (r : Record) (c : Count) (k : ℕ) (is : Bool) (v p : ℕ) → KeepsCount c is v p → k + 1 < 2 ^ 64 → miscounted is v k ≡ false → agreed r k c ≡ good r
 counts-well r uncounted k is v p e l w = refl
 counts-well r (counted n at) k is v p e l w =
     let t : eqb n k ≡ true = sym (capped-same n k l) ∙ ap (λ (x : ℕ). eqb x k) (sym (e .1)) ∙ agrees is (eqb v k) (e .0) w in
@@ -46,7 +46,7 @@ counts-well r (counted n at) k is v p e l w =
     agrees true false e w = clash refl w
     agrees false y e w = clash refl (sym e)
 
-counts-badly : (r : Record) (c : Count) (k : ℕ) (is : Bool) (v p : ℕ) → KeepsCount c is v p → k < 2 ^ 63 → miscounted is v k ≡ true → agreed r k c ≡ refused 10 p
+counts-badly : (r : Record) (c : Count) (k : ℕ) (is : Bool) (v p : ℕ) → KeepsCount c is v p → k + 1 < 2 ^ 64 → miscounted is v k ≡ true → agreed r k c ≡ refused 10 p
 counts-badly r uncounted k is v p e l w = clash w (ap (λ (x : Bool). x && not (eqb v k)) e)
 counts-badly r (counted n at) k is v p e l w =
     let t : eqb n k ≡ false = sym (capped-same n k l) ∙ ap (λ (x : ℕ). eqb x k) (sym (e .1)) ∙ differs is (eqb v k) w in
@@ -64,7 +64,7 @@ module _ (s : Saids) (k : Said) (size : ℕ) (kept : Keeps s k) where
   pub no-output : k .output ≡ false → comesTo size s ≡ refused 10 size
   no-output e = rw (sym (kept .output) ∙ e, and-false (ltb 0 (s .inputs)))
 
-  module _ (some : k .inputs ≡ 0 → ⊥) (came : k .output ≡ true) (few : k .cubes < 2 ^ 63) where
+  module _ (some : k .inputs ≡ 0 → ⊥) (came : k .output ≡ true) (few : k .cubes + 1 < 2 ^ 64) where
     counted-all : comesTo size s ≡ agreed (drawnBy s) (length (s .cubes)) (s .count)
     counted-all = let n : k .inputs ≡ 0 → ⊥ = some in rw (lt-ltb 0 (s .inputs) (omega (arith, kept .inputs)), sym (kept .output) ∙ came)
 

@@ -71,7 +71,7 @@ module _ (s : Saids) (k : Said) (at : ℕ) (kept : Keeps s k) where
 
   pub inputs-kept : (n v : ℕ) → k .inputs ≡ 0 → v ≡ capped n → marksOk mostMarks v ≡ true
       → Leads s at (inputs n) (On (record { inputs = v; output = k .output; counted = k .counted; count = k .count; place = k .place; cubes = k .cubes; class = k .class }))
-  inputs-kept n v z e w = goes right (record {
+  inputs-kept n v z e w = goes right (omega arith) (record {
     inputs = v-is;
     most = subst (λ (x : ℕ). x ≤ mostMarks) v-is few;
     output = kept .output;
@@ -111,7 +111,7 @@ module _ (s : Saids) (k : Said) (at : ℕ) (kept : Keeps s k) where
 
   pub output-kept : (k .inputs ≡ 0 → ⊥) → k .output ≡ false
       → Leads s at output (On (record { inputs = k .inputs; output = true; counted = k .counted; count = k .count; place = k .place; cubes = k .cubes; class = k .class }))
-  output-kept d e = goes right (record {
+  output-kept d e = goes right (omega arith) (record {
     inputs = kept .inputs;
     most = kept .most;
     output = refl;
@@ -138,7 +138,7 @@ module _ (s : Saids) (k : Said) (at : ℕ) (kept : Keeps s k) where
 
   pub count-kept : (n v : ℕ) → k .counted ≡ false → v ≡ capped n
       → Leads s at (count n) (On (record { inputs = k .inputs; output = k .output; counted = true; count = v; place = at; cubes = k .cubes; class = k .class }))
-  count-kept n v e w = goes right (record {
+  count-kept n v e w = goes right (omega arith) (record {
     inputs = kept .inputs;
     most = kept .most;
     output = kept .output;
@@ -162,7 +162,7 @@ module _ (s : Saids) (k : Said) (at : ℕ) (kept : Keeps s k) where
 
   pub cube-kept : (sets : List ℕ) → Tabled sets → (b : ℕ) → b < 3 ^ k .inputs → k .output ≡ true
       → Leads s at (cube b) (On (record { inputs = k .inputs; output = k .output; counted = k .counted; count = k .count; place = k .place; cubes = k .cubes + 1; class = bitOr (k .class) (valueAt sets b) }))
-  cube-kept sets table b l e = goes right (record {
+  cube-kept sets table b l e = goes right fewer (record {
     inputs = kept .inputs;
     most = kept .most;
     output = e;
@@ -180,6 +180,9 @@ module _ (s : Saids) (k : Said) (at : ℕ) (kept : Keeps s k) where
 
       one-more : k .cubes + 1 ≡ length (s .cubes ++ b ∷ [])
       one-more = omega (arith, kept .cubes, length-append (s .cubes) (b ∷ []))
+
+      fewer : length (s .cubes ++ b ∷ []) ≤ length (s .cubes) + 1
+      fewer = omega (arith, length-append (s .cubes) (b ∷ []))
 
       below : b < 3 ^ s .inputs
       below = subst (λ (m : ℕ). b < 3 ^ m) (kept .inputs) l

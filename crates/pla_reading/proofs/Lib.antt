@@ -1,2 +1,3 @@
 pub mod Keeping
 pub mod Ends
+pub mod Lines

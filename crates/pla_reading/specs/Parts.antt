@@ -41,7 +41,7 @@ pub record Keeps (s : Saids) (k : Said) : Type 0 where
 
 -- what a line at an offset leads to that says x
 pub data Leads (s : Saids) (at : ℕ) (x : Saying) : Next → Type 0 where
-  goes : {u : Saids} {k : Said} → ((size : ℕ) → judge mostMarks size s at x ≡ on u) → Keeps u k → Leads s at x (On k)
+  goes : {u : Saids} {k : Said} → ((size : ℕ) → judge mostMarks size s at x ≡ on u) → length (u .cubes) ≤ length (s .cubes) + 1 → Keeps u k → Leads s at x (On k)
   ends : x ≡ end → Leads s at x Ends
   stops : {n p : ℕ} → ((size : ℕ) → judge mostMarks size s at x ≡ stop (refused n p)) → Leads s at x (Refused n p)
 

@@ -127,7 +127,7 @@ impl Said {
 
     // What was said in all, at the end of an input of so many bytes.
     pub fn comes_to(self, size: usize) -> Read
-        requires { ⌜ (self .inputs ≤ mostMarks) × (self .cubes < 2 ^ 63) ⌝ }
+        requires { ⌜ (self .inputs ≤ mostMarks) × (self .cubes + 1 < 2 ^ 64) ⌝ }
         ensures { λ r. ⌜ Comes self size r ⌝ }
     {
         if self.inputs == 0 {

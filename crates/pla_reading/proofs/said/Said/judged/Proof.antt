@@ -1,5 +1,6 @@
 -- Each kind of line has its own function, whose promise is that part of `Judged`.
 use mathlib.Core.Path.{_≡_, refl, sym, subst}
+use native.Mathlib.Omega.{arith}
 use borrow.Author.Needs.{needs}
 use Rattle.pla_lines.specs.declared.Heard.{Heard}
 use Rattle.pla_reading.specs.declared.said.Next.the-variants.{On, End as Ends, Refused}
@@ -15,7 +16,7 @@ with-cube-requires c κs =
 returns : tie.Need-returns
 returns c =
     let a = c .before .before .args in
-    subst (λ (h : Heard). Judged (a .self) (a .at) h (On (a .self))) (sym (c .enum-told .given .1)) (λ s kept. goes (λ size. refl) kept)
+    subst (λ (h : Heard). Judged (a .self) (a .at) h (On (a .self))) (sym (c .enum-told .given .1)) (λ s kept. goes (λ size. refl) (omega arith) kept)
 
 returns-2 : tie.Need-returns-2
 returns-2 c =
