@@ -1,5 +1,4 @@
 // Writing the shortest list of a sheet's class as a PLA text into a lent area.
-ghost use mathlib.Core.Path.{_≡_};
 ghost use Prim.Native.Nat.{_+_, _≤_};
 ghost use lib.ListN.{length};
 ghost use Rattle.ground.specs.Areas.{Wrote};

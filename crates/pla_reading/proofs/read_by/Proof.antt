@@ -1,128 +1,75 @@
+-- The lines up to the offset are read (`Reached`); each line goes on, ends the reading, or is refused, as the laws of Lines say.
+use Prim.Native.Nat.{ℕ, _+_, _-_, _≤_, _<_}
+use mathlib.Core.Path.{_≡_, refl, sym, ap, subst, _∙_}
+use mathlib.Core.List.{List}
+use native.Mathlib.Omega.{arith}
+use borrow.Author.Needs.{needs}
+use lib.ListN.{length, drop, length-drop}
+use Rattle.stored.specs.Fields.{refused}
+use Rattle.pla.specs.Reading.{comesTo}
+use Rattle.pla_lines.specs.Lines.{firstLine, wordsIn}
+use Rattle.pla_lines.specs.Parts.{Hears}
+use Rattle.pla_lines.proofs.Fronts.{from-drop}
+use Rattle.pla_lines.proofs.FirstLine.{line-inside}
+use Rattle.pla_reading.proofs.Lines.{Reached, reached-none, cubes-few, marks-few, in-boxes, line-refused, line-ends, line-taken, all-read, answered}
 use Rattle.pla_reading.proofs.read_by.Statement.{statement}
 use Rattle.pla_reading.proofs.read_by.Tie as tie
-use Rattle.pla_reading.proofs.read_by.Reads as reads
-use Rattle.pla_reading.proofs.read_by.Lts as lts
-use Rattle.pla_lines.proofs.read.Reads as read-reads
-use Rattle.pla_lines.proofs.size.Reads as size-reads
-use Rattle.pla_reading.proofs.said.Said.comes_to.Reads as comes-to-reads
-use Rattle.pla_reading.proofs.said.Said.judged.Reads as judged-reads
-use Rattle.pla_reading.proofs.said.Said.nothing.Reads as nothing-reads
-use Rattle.stored.proofs.Read.refused.Reads as refused-reads
 
 abbrev Inv-loop : tie.InvT-loop
-Inv-loop text sets said₀ at₀ said at = ?
+Inv-loop text sets said₀ at₀ said at = Reached text said at
 
 abbrev μ-loop : tie.MeasureT-loop
-μ-loop text sets said₀ at₀ said at = ?
+μ-loop text sets said₀ at₀ said at = length text + 1 - at
 
--- src/lib.rt:18:9
-nothing-requires : tie.Need-nothing-requires Inv-loop μ-loop
-nothing-requires c κs = ?
-
--- src/lib.rt:20:5
 loop-holds : tie.Need-loop-holds Inv-loop μ-loop
-loop-holds c = ?
+loop-holds c = reached-none _ _ (c .nothing .ensures)
 
--- src/lib.rt:21:20
-sub-line : tie.Need-sub-line Inv-loop μ-loop
-sub-line c = ?
-
--- src/lib.rt:21:20
-part-line-start : tie.Need-part-line-start Inv-loop μ-loop
-part-line-start c = ?
-
--- src/lib.rt:21:20
-part-line-end : tie.Need-part-line-end Inv-loop μ-loop
-part-line-end c = ?
-
--- src/lib.rt:23:13
-read-requires : tie.Need-read-requires Inv-loop μ-loop
-read-requires c κs = ?
-
--- src/lib.rt:24:15
 judged-requires : tie.Need-judged-requires Inv-loop μ-loop
-judged-requires c κs = ?
+judged-requires c κs =
+    let l = c .before .before .before .loop in
+    let z = c .before .before .before .before .before .before in
+    (record { marks = marks-few (l .inv); box = in-boxes (c .read .ensures); few = omega (arith, cubes-few (l .inv), z .good) }, z .pre)
 
--- src/lib.rt:25:22
-enum-known-s : tie.Need-enum-known-s Inv-loop μ-loop
-enum-known-s c = ?
+-- what was heard of the line at the offset
+heard : (c : tie.After-judged Inv-loop μ-loop)
+    → Hears (c .before .before .before .before .loop .said .inputs) (wordsIn (drop (c .before .before .before .before .loop .at) (c .before .before .before .before .before .before .before .args .text .now))) (c .before .read .result)
+heard c =
+    let l = c .before .before .before .before .loop in
+    let t = c .before .before .before .before .before .before .before .args .text .now in
+    subst (λ (x : List ℕ). Hears (l .said .inputs) (wordsIn x) (c .before .read .result)) (from-drop (l .at) t) (c .before .read .ensures)
 
--- src/lib.rt:29:38
-enum-told : tie.Need-enum-told Inv-loop μ-loop
-enum-told c = ?
-
--- src/lib.rt:29:17
-comes-to-requires : tie.Need-comes-to-requires Inv-loop μ-loop
-comes-to-requires c κs = ?
-
--- src/lib.rt:29:17
 returns : tie.Need-returns Inv-loop μ-loop
 returns c = ?
 
--- src/lib.rt:31:27
-enum-known-number : tie.Need-enum-known-number Inv-loop μ-loop
-enum-known-number c = ?
-
--- src/lib.rt:32:17
-refused-requires : tie.Need-refused-requires Inv-loop μ-loop
-refused-requires c κs = ?
-
--- src/lib.rt:32:17
 returns-2 : tie.Need-returns-2 Inv-loop μ-loop
 returns-2 c = ?
 
--- src/lib.rt:35:19
-size-requires : tie.Need-size-requires Inv-loop μ-loop
-size-requires c κs = ?
+-- how long the line is
+size-is : (c : tie.After-size Inv-loop μ-loop)
+    → c .size .result ≡ length (firstLine (drop (c .before .before .before .before .before .before .before .before .loop .at) (c .before .before .before .before .before .before .before .before .before .before .before .args .text .now)))
+size-is c =
+    let l = c .before .before .before .before .before .before .before .before .loop in
+    let t = c .before .before .before .before .before .before .before .before .before .before .before .args .text .now in
+    c .size .ensures ∙ ap (λ (x : List ℕ). length (firstLine x)) (from-drop (l .at) t)
 
--- src/lib.rt:35:14
-add-at : tie.Need-add-at Inv-loop μ-loop
-add-at c = ?
+line-fits : (c : tie.After-size Inv-loop μ-loop)
+    → c .before .before .before .before .before .before .before .before .loop .at + c .size .result ≤ length (c .before .before .before .before .before .before .before .before .before .before .before .args .text .now)
+line-fits c =
+    let l = c .before .before .before .before .before .before .before .before .loop in
+    let t = c .before .before .before .before .before .before .before .before .before .before .before .args .text .now in
+    omega (arith, size-is c, line-inside (drop (l .at) t), length-drop (l .at) t)
 
--- src/lib.rt:35:14
-add-at-2 : tie.Need-add-at-2 Inv-loop μ-loop
-add-at-2 c = ?
-
--- src/lib.rt:20:5
-loop-less : tie.Need-loop-less Inv-loop μ-loop
-loop-less c = ?
-
--- src/lib.rt:20:5
 loop-again : tie.Need-loop-again Inv-loop μ-loop
 loop-again c = ?
 
--- src/lib.rt:37:5
 comes-to-requires-2 : tie.Need-comes-to-requires-2 Inv-loop μ-loop
 comes-to-requires-2 c κs = ?
 
--- src/lib.rt:14:1
 returns-3 : tie.Need-returns-3 Inv-loop μ-loop
 returns-3 c = ?
 
 pub read-by-spec : {M : Type 1} → statement M
-read-by-spec =
-    tie.close
-    (tie.spec
-    Inv-loop
-    μ-loop
-    nothing-requires
-    loop-holds
-    sub-line
-    part-line-start
-    part-line-end
-    read-requires
-    judged-requires
-    enum-known-s
-    enum-told
-    comes-to-requires
-    returns
-    enum-known-number
-    refused-requires
-    returns-2
-    size-requires
-    add-at
-    add-at-2
-    loop-less
-    loop-again
-    comes-to-requires-2
-    returns-3)
+read-by-spec = tie.close (tie.spec
+    Inv-loop μ-loop (λ c κs. search needs) loop-holds (λ c. omega arith) (λ c. omega arith) (λ c. search needs) (λ c κs. marks-few (c .before .before .loop .inv))
+    judged-requires (λ c. search needs) (λ c. search needs) (λ c κs. ?) returns (λ c. search needs) (λ c κs. search needs) returns-2
+    (λ c κs. search needs) (λ c. omega (arith, line-fits c)) (λ c. omega (arith, line-fits c)) (λ c. omega (arith, line-fits c)) loop-again comes-to-requires-2 returns-3)

@@ -19,7 +19,7 @@ returns c =
     let s = c .before .before .before .before .before .before .before in
     let a = c .before .before .before .before .before .area in
     let l = c .before .before .before .list-sound in
-    text-short (s .pre) (a .ensures) (l .ensures) (c .before .text-size .ensures) (c .if1 .taken)
+    text-short (s .pre) (a .ensures) (l .ensures) (c .before .text-size .ensures) (omega arith)
 
 array-share-prefix-area : tie.Need-array-share-prefix-area
 array-share-prefix-area c =
