@@ -38,11 +38,25 @@ heard c =
     let t = c .before .before .before .before .before .before .before .args .text .now in
     subst (λ (x : List ℕ). Hears (l .said .inputs) (wordsIn x) (c .before .read .result)) (from-drop (l .at) t) (c .before .read .ensures)
 
+comes-to-requires : tie.Need-comes-to-requires Inv-loop μ-loop
+comes-to-requires c κs =
+    let i = c .before .before .before .before .before .before .loop .inv in
+    (marks-few i, omega (arith, cubes-few i, c .before .before .before .before .before .before .before .before .before .good))
+
 returns : tie.Need-returns Inv-loop μ-loop
-returns c = ?
+returns c =
+    let j = c .before .before .before in
+    let l = j .before .before .before .before .loop in
+    let t = j .before .before .before .before .before .before .before .args .text .now in
+    answered _ (line-ends t (l .said) (l .at) _ _ (l .inv) (omega arith) (heard j) (j .judged .ensures) (c .before .enum-told .given .1))
+    (c .comes-to .ensures (l .inv .so-far) (l .inv .kept))
 
 returns-2 : tie.Need-returns-2 Inv-loop μ-loop
-returns-2 c = ?
+returns-2 c =
+    let j = c .before .before .before .before in
+    let l = j .before .before .before .before .loop in
+    let t = j .before .before .before .before .before .before .before .args .text .now in
+    answered _ (line-refused t (l .said) (l .at) _ _ (l .inv) (omega arith) (heard j) (j .judged .ensures) _ _ (c .before .before .number .given .1)) (c .refused .ensures)
 
 -- how long the line is
 size-is : (c : tie.After-size Inv-loop μ-loop)
@@ -60,16 +74,24 @@ line-fits c =
     omega (arith, size-is c, line-inside (drop (l .at) t), length-drop (l .at) t)
 
 loop-again : tie.Need-loop-again Inv-loop μ-loop
-loop-again c = ?
+loop-again c =
+    let j = c .before .before .before .before in
+    let l = j .before .before .before .before .loop in
+    let t = j .before .before .before .before .before .before .before .args .text .now in
+    subst (λ (n : ℕ). Reached t (c .before .before .s .given .0 .0) (l .at + n + 1)) (sym (size-is c))
+    (line-taken t (l .said) (l .at) _ _ (l .inv) (omega arith) (heard j) (j .judged .ensures) _ (c .before .before .s .given .1))
 
 comes-to-requires-2 : tie.Need-comes-to-requires-2 Inv-loop μ-loop
-comes-to-requires-2 c κs = ?
+comes-to-requires-2 c κs = let i = c .before .loop .inv in (marks-few i, omega (arith, cubes-few i, c .before .before .before .before .good))
 
 returns-3 : tie.Need-returns-3 Inv-loop μ-loop
-returns-3 c = ?
+returns-3 c =
+    let l = c .before .before .loop in
+    let t = c .before .before .before .before .before .args .text .now in
+    answered _ (all-read t (l .said) (l .at) (l .inv) (omega arith)) (c .comes-to2 .ensures (l .inv .so-far) (l .inv .kept))
 
 pub read-by-spec : {M : Type 1} → statement M
 read-by-spec = tie.close (tie.spec
     Inv-loop μ-loop (λ c κs. search needs) loop-holds (λ c. omega arith) (λ c. omega arith) (λ c. search needs) (λ c κs. marks-few (c .before .before .loop .inv))
-    judged-requires (λ c. search needs) (λ c. search needs) (λ c κs. ?) returns (λ c. search needs) (λ c κs. search needs) returns-2
+    judged-requires (λ c. search needs) (λ c. search needs) comes-to-requires returns (λ c. search needs) (λ c κs. search needs) returns-2
     (λ c κs. search needs) (λ c. omega (arith, line-fits c)) (λ c. omega (arith, line-fits c)) (λ c. omega (arith, line-fits c)) loop-again comes-to-requires-2 returns-3)
