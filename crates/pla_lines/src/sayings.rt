@@ -95,7 +95,7 @@ fn read_cube(word: &[u8], m: usize) -> Cube
     Cube::Of(b)
 }
 
-// A keyword and its number, or `.o 1`, or a cube and `1`. The caller has asked for `.e`.
+// A keyword and its number, or `.o 1`, or a cube and `1`; a line with `.e` is not brought here.
 pub fn pair(first: &[u8], second: &[u8], m: usize) -> Heard
     requires { ⌜ (m ≤ mostMarks) × (now first ≡ ascii ".e" → ⊥) ⌝ }
     ensures { λ r. ⌜ Hears m (now (first .entry) ∷ now (second .entry) ∷ []) r ⌝ }

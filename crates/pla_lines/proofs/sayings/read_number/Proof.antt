@@ -30,7 +30,7 @@ returns-3 c = number-other _ (c .before .before .before .before .loop .i) (omega
 returns-4 : tie.Need-returns-4 Inv-loop μ-loop
 returns-4 c =
     let l = c .before .before .before .before .before .before .loop in
-    number-zero _ (l .i) (l .n) (l .inv .1) (eqb-true (l .n) 0 (c .if5 .taken)) (c .before .if4 .taken) (omega arith)
+    number-zero _ (l .i) (l .n) (l .inv .1) (eqb-true (l .n) 0 (c .if5 .taken)) (omega arith) (omega arith)
 
 grown-requires : tie.Need-grown-requires Inv-loop μ-loop
 grown-requires c κs = (omega arith, omega arith)
