@@ -3,3 +3,4 @@ pub mod Runs
 pub mod Drawings
 pub mod Sound
 pub mod Settled
+pub mod Back
