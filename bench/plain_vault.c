@@ -168,6 +168,204 @@ struct vault_reply plain_total(const uint8_t *sheet, size_t n)
     return r;
 }
 
+/* ---- PLA texts, in one pass */
+
+struct drawing {
+    struct sheet sheet; /* marks are 0 before .i */
+    bool output, counted;
+    uint64_t count, cubes;
+    size_t counted_at;
+};
+
+struct word {
+    const uint8_t *p;
+    size_t n; /* 0: the line has no more words */
+};
+
+enum next { GO_ON, END, UNREADABLE, MARKS };
+
+/* The next word of the line, which ends at a newline, a comment or the text's end; *at is then behind it. */
+static struct word next_word(const uint8_t *t, size_t n, size_t *at)
+{
+    size_t i = *at;
+    while (i < n && (t[i] == ' ' || t[i] == '\t'))
+        i++;
+    struct word w = {t + i, 0};
+    while (i < n && t[i] != ' ' && t[i] != '\t' && t[i] != '\n' && t[i] != '#')
+        i++;
+    w.n = (size_t)(t + i - w.p);
+    *at = i;
+    return w;
+}
+
+static bool says(struct word w, const char *text)
+{
+    return w.n == strlen(text) && memcmp(w.p, text, w.n) == 0;
+}
+
+/* Digits without a needless zero in front. What does not fit in 64 bits is the largest number that does. */
+static bool read_number(struct word w, uint64_t *number)
+{
+    uint64_t x = 0;
+    if (w.n > 1 && w.p[0] == '0')
+        return false;
+    for (size_t i = 0; i < w.n; i++) {
+        uint64_t d = (uint64_t)w.p[i] - '0';
+        if (d > 9)
+            return false;
+        x = x > (UINT64_MAX - d) / 10 ? UINT64_MAX : x * 10 + d;
+    }
+    *number = x;
+    return w.n > 0;
+}
+
+/* The combinations of a cube, from the lowest mark up. */
+static bool read_cube(struct word w, unsigned marks, uint32_t *set)
+{
+    uint32_t s = 1;
+    if (w.n != marks)
+        return false;
+    for (unsigned i = 0; i < marks; i++) {
+        uint8_t sign = w.p[marks - 1 - i];
+        if (sign == '-')
+            s |= s << (1u << i);
+        else if (sign == '1')
+            s <<= 1u << i;
+        else if (sign != '0')
+            return false;
+    }
+    *set = s;
+    return true;
+}
+
+static enum next inputs(struct drawing *d, struct word w)
+{
+    uint64_t n;
+    if (!read_number(w, &n) || d->sheet.marks != 0)
+        return UNREADABLE;
+    if (n < 1 || n > VAULT_MOST_MARKS)
+        return MARKS;
+    d->sheet.marks = (unsigned)n;
+    d->sheet.size = 1u << n;
+    return GO_ON;
+}
+
+/* A line of two words; `from` is its offset. */
+static enum next pair(struct drawing *d, size_t from, struct word w, struct word v)
+{
+    uint32_t set;
+    if (says(w, ".i"))
+        return inputs(d, v);
+    if (says(w, ".p")) {
+        if (d->counted || !read_number(v, &d->count))
+            return UNREADABLE;
+        d->counted = true;
+        d->counted_at = from;
+        return GO_ON;
+    }
+    if (!says(v, "1"))
+        return UNREADABLE;
+    if (says(w, ".o")) {
+        if (d->sheet.marks == 0 || d->output)
+            return UNREADABLE;
+        d->output = true;
+        return GO_ON;
+    }
+    if (!d->output || !read_cube(w, d->sheet.marks, &set))
+        return UNREADABLE;
+    d->sheet.class |= set;
+    d->cubes++;
+    return GO_ON;
+}
+
+/* The line at *at, which is then where the next one begins. */
+static enum next take_line(struct drawing *d, const uint8_t *t, size_t n, size_t *at)
+{
+    size_t from = *at;
+    struct word w = next_word(t, n, at), v = next_word(t, n, at);
+    if (says(w, ".e"))
+        return END;
+    enum next next = w.n == 0 ? GO_ON : v.n == 0 || next_word(t, n, at).n != 0 ? UNREADABLE : pair(d, from, w, v);
+    if (*at < n && t[*at] == '#') {
+        const uint8_t *end = memchr(t + *at, '\n', n - *at);
+        *at = end == NULL ? n : (size_t)(end - t);
+    }
+    *at += 1;
+    return next;
+}
+
+static struct vault_reply draw(struct drawing *d, const uint8_t *t, size_t n)
+{
+    enum next next = GO_ON;
+    size_t from = 0;
+    memset(d, 0, sizeof *d);
+    for (size_t at = 0; next == GO_ON && at < n;) {
+        from = at;
+        next = take_line(d, t, n, &at);
+    }
+    if (next == MARKS)
+        return reply(VAULT_MARKS, 0, 0);
+    if (next == UNREADABLE)
+        return reply(VAULT_UNREADABLE, from, 0);
+    if (!d->output)
+        return reply(VAULT_UNREADABLE, n, 0);
+    if (d->counted && d->count != d->cubes)
+        return reply(VAULT_UNREADABLE, d->counted_at, 0);
+    return reply(VAULT_DONE, 0, 0);
+}
+
+static char *put_text(char *p, const char *text)
+{
+    size_t n = strlen(text);
+    memcpy(p, text, n);
+    return p + n;
+}
+
+/* The text of a list of k lines, which has no more than 16 of them. */
+static struct vault_reply put_pla(unsigned marks, const uint8_t *list, size_t k, void *out, size_t room)
+{
+    char text[VAULT_PLA_SIZE], *p = put_text(text, ".i ");
+    *p++ = (char)('0' + marks);
+    p = put_text(p, "\n.o 1\n.p ");
+    if (k > 9)
+        *p++ = (char)('0' + k / 10);
+    *p++ = (char)('0' + k % 10);
+    *p++ = '\n';
+    for (size_t i = 0; i < k; i++, p += marks + 3) {
+        unsigned b = list[i];
+        for (unsigned j = marks; j-- > 0; b /= 3)
+            p[j] = "01-"[b % 3];
+        memcpy(p + marks, " 1\n", 3);
+    }
+    p = put_text(p, ".e\n");
+    size_t n = (size_t)(p - text);
+    if (n > room)
+        return reply(VAULT_ROOM, 0, 0);
+    memcpy(out, text, n);
+    return reply(VAULT_DONE, 0, n);
+}
+
+static struct vault_reply written(unsigned marks, uint32_t class, void *out, size_t room)
+{
+    uint8_t list[VAULT_LIST_SIZE];
+    struct vault_reply r = searched(marks, class, list, sizeof list);
+    return r.answer == VAULT_DONE ? put_pla(marks, list, r.value, out, room) : r;
+}
+
+struct vault_reply plain_read_pla(const void *text, size_t n, uint8_t *out, size_t room)
+{
+    struct drawing d;
+    struct vault_reply r = draw(&d, text, n);
+    return r.answer == VAULT_DONE ? put(&d.sheet, out, room) : r;
+}
+
+struct vault_reply plain_write_pla(const uint8_t *sheet, size_t n, void *out, size_t room)
+{
+    struct sheet s;
+    struct vault_reply r = get(&s, sheet, n);
+    return r.answer == VAULT_DONE ? written(s.marks, s.class, out, room) : r;
+}
+
 /* ---- the same by the library's steps: two numbers are kept of every line, and all that is told or written is taken from them */
 
 struct kept {
@@ -307,4 +505,22 @@ struct vault_reply tables_total(const uint8_t *sheet, size_t n)
         r.value += k.outside[b] == 0 ? k.held[b] : 0;
     }
     return r;
+}
+
+struct vault_reply tables_read_pla(const void *text, size_t n, uint8_t *out, size_t room)
+{
+    struct drawing d;
+    struct kept k;
+    struct vault_reply r = draw(&d, text, n);
+    if (r.answer != VAULT_DONE)
+        return r;
+    work_out(&k, &d.sheet);
+    return put_kept(&k, out, room);
+}
+
+struct vault_reply tables_write_pla(const uint8_t *sheet, size_t n, void *out, size_t room)
+{
+    struct kept k;
+    struct vault_reply r = get_kept(&k, sheet, n);
+    return r.answer == VAULT_DONE ? written(k.marks, class_of(&k), out, room) : r;
 }

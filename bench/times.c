@@ -1,4 +1,4 @@
-/* The library's times beside those of plain C for the same jobs, and of glpk for the list: sheets of five marks in their stored form, one table.
+/* The library's times beside those of plain C for the same jobs, and of glpk for the list: sheets of five marks in their stored form, and PLA texts, one table.
 
    Each job is done on each sheet in every round, by each version in turn. Of a sheet the least processor time counts, so that what else runs on the
    machine shows little; mean and worst are over the sheets. All replies and all that was written are compared; glpk tells only the length of the list. */
@@ -7,19 +7,22 @@
 #include "plain_seek.h"
 #include "plain_vault.h"
 #include <stdio.h>
+#include <stdlib.h>
 #include <string.h>
 #include <time.h>
 
-enum { CLASSES = 20000, HARD = 15, PAIRS = 2000, SHEETS = 500, VERSIONS = 4 };
+enum { CLASSES = 20000, HARD = 15, PAIRS = 2000, SHEETS = 500, TEXTS = 3, VERSIONS = 4 };
 
 struct form {
     uint32_t class, room;
     uint8_t bytes[VAULT_FORM_SIZE];
     size_t n;
     uint64_t c, seconds;
+    const char *text; /* a PLA text, if there is one */
+    size_t text_size;
 };
 
-static struct form random_classes[CLASSES], hard[HARD], pairs[PAIRS];
+static struct form random_classes[CLASSES], hard[HARD], pairs[PAIRS], texts[TEXTS];
 
 typedef struct vault_reply job(const struct form *f, uint8_t *out);
 
@@ -85,6 +88,29 @@ static void make_all(void)
     }
 }
 
+/* PLA texts: every cube of five marks once, and then one of them again and again. */
+static int make_texts(void)
+{
+    static const int cubes[TEXTS] = {243, 10000, 100000};
+    for (int i = 0; i < TEXTS; i++) {
+        size_t room = 32 + (size_t)cubes[i] * 8;
+        char *text = malloc(room), *p = text;
+        if (text == NULL)
+            return 0;
+        p += snprintf(p, room, ".i 5\n.o 1\n.p %d\n", cubes[i]);
+        for (int k = 0; k < cubes[i]; k++, p += 8) {
+            int b = i == 0 ? k : 121;
+            for (int j = 5; j-- > 0; b /= 3)
+                p[j] = "01-"[b % 3];
+            memcpy(p + 5, " 1\n", 3);
+        }
+        memcpy(p, ".e\n", 3);
+        texts[i].text = text;
+        texts[i].text_size = (size_t)(p + 3 - text);
+    }
+    return 1;
+}
+
 /* ---- the jobs: by the library, by plain C in the same steps, by plain C that keeps no numbers, by glpk */
 
 /* crates/seek_c: a slice is a pointer and a length */
@@ -120,13 +146,20 @@ JOB(size_p, plain_class_size(f->bytes, f->n))
 JOB(copy, vault_copy(f->bytes, f->n, out, VAULT_FORM_SIZE))
 JOB(copy_s, tables_copy(f->bytes, f->n, out, VAULT_FORM_SIZE))
 JOB(copy_p, plain_copy(f->bytes, f->n, out, VAULT_FORM_SIZE))
+JOB(pla_write, vault_write_pla(f->bytes, f->n, out, VAULT_PLA_SIZE))
+JOB(pla_write_s, tables_write_pla(f->bytes, f->n, out, VAULT_PLA_SIZE))
+JOB(pla_write_p, plain_write_pla(f->bytes, f->n, out, VAULT_PLA_SIZE))
+JOB(pla_read, vault_read_pla(f->text, f->text_size, out, VAULT_FORM_SIZE))
+JOB(pla_read_s, tables_read_pla(f->text, f->text_size, out, VAULT_FORM_SIZE))
+JOB(pla_read_p, plain_read_pla(f->text, f->text_size, out, VAULT_FORM_SIZE))
 
 #define MS 1e6
 #define US 1e3
+#define A_BYTE 0
 
 struct row {
     const char *name;
-    double unit; /* in nanoseconds */
+    double unit; /* in nanoseconds; A_BYTE: nanoseconds for each byte of the text */
     const struct form *forms;
     int n, rounds, times; /* how often a job is done on a sheet in a row, before the next sheet */
     job *jobs[VERSIONS];
@@ -140,6 +173,11 @@ static const struct row rows[] = {
     {"total, us", US, random_classes, SHEETS, 10, 100, {total, total_s, total_p, NULL}},
     {"class size, us", US, random_classes, SHEETS, 10, 100, {size, size_s, size_p, NULL}},
     {"read and write (copy), us", US, random_classes, SHEETS, 10, 100, {copy, copy_s, copy_p, NULL}},
+    {"list as PLA, 500 classes, ms", MS, random_classes, SHEETS, 10, 1, {pla_write, pla_write_s, pla_write_p, NULL}},
+    {"PLA of 243 cubes, us", US, &texts[0], 1, 100, 10, {pla_read, pla_read_s, pla_read_p, NULL}},
+    {"    the same, ns a byte", A_BYTE, &texts[0], 1, 100, 10, {pla_read, pla_read_s, pla_read_p, NULL}},
+    {"PLA of 10,000 cubes, ns a byte", A_BYTE, &texts[1], 1, 50, 1, {pla_read, pla_read_s, pla_read_p, NULL}},
+    {"PLA of 100,000 cubes, ns a byte", A_BYTE, &texts[2], 1, 20, 1, {pla_read, pla_read_s, pla_read_p, NULL}},
 };
 
 /* ---- the table */
@@ -174,7 +212,7 @@ static int measure(const struct row *r)
     for (int k = 0; k < r->rounds; k++)
         for (int v = 0; v < VERSIONS; v++)
             for (int i = 0; r->jobs[v] != NULL && i < r->n; i++) {
-                double took = once(r->jobs[v], &r->forms[i], r->times) / r->unit;
+                double took = once(r->jobs[v], &r->forms[i], r->times) / (r->unit == A_BYTE ? (double)r->forms[i].text_size : r->unit);
                 least[v][i] = k == 0 || took < least[v][i] ? took : least[v][i];
             }
     printf("%-33s", r->name);
@@ -218,6 +256,10 @@ int main(void)
 {
     int wrong = 0;
     make_all();
+    if (!make_texts()) {
+        fprintf(stderr, "no memory\n");
+        return 1;
+    }
     printf("%-33s%16s%25s%25s%25s\n", "", "library", "C, same steps", "C, no numbers kept", "glpk, length only");
     printf("%-33s%8s%8s", "", "mean", "worst");
     for (int v = 1; v < VERSIONS; v++)

@@ -19,13 +19,13 @@
  *
  * Areas. A pointer and a length lend that many bytes for the time of the call. Any length is taken. A null pointer with length 0 is an empty
  * area; with another length it must not be null. An area that is written to may not overlap any other; two that are only read may. A byte
- * behind what was written stays as it was. An area that always suffices has VAULT_FORM_SIZE bytes for a stored form, and VAULT_LIST_SIZE bytes
- * for a list.
+ * behind what was written stays as it was. An area that always suffices has VAULT_FORM_SIZE bytes for a stored form, VAULT_LIST_SIZE bytes for
+ * a list, and VAULT_PLA_SIZE bytes for a PLA text that is written.
  *
  * Replies. Every entry returns an answer, a place and a value. The place is 0 for every answer but VAULT_UNREADABLE; the value is 0 for every
  * answer but VAULT_DONE. Every answer but VAULT_DONE is a refusal, and leaves every byte of every area as it was. If there are several
  * reasons to refuse, the first in this order is answered: what reading the sheet answers, then what the call answers, in the order in which
- * the entry below names them, then VAULT_ROOM. (vault_open reads no sheet.)
+ * the entry below names them, then VAULT_ROOM. (vault_open reads no sheet, and vault_read_pla reads a text in its place.)
  *
  * Reading a sheet answers, before anything else,
  *     VAULT_UNREADABLE  with place 0, if there is no byte
@@ -49,7 +49,7 @@ extern "C" {
 
 /* The version, as three numbers and as text with dots between. The three lines are its one source: Makefile and vault.pc take it from here. */
 #define VAULT_VERSION_MAJOR 1
-#define VAULT_VERSION_MINOR 0
+#define VAULT_VERSION_MINOR 1
 #define VAULT_VERSION_PATCH 0
 #define VAULT_DOTTED(a, b, c) #a "." #b "." #c
 #define VAULT_DOTTED_VALUES(a, b, c) VAULT_DOTTED(a, b, c)
@@ -77,9 +77,10 @@ enum vault_answer {
 #define VAULT_MOST_AMOUNT 35999      /* seconds of one receipt or withdrawal: 599:59 */
 #define VAULT_MOST_HELD 4000000000u  /* seconds of a sheet */
 
-/* Room that always suffices: for a stored form, 5 + 6 * 32 bytes, and for a list. */
+/* Room that always suffices: for a stored form, 5 + 6 * 32 bytes, for a list, and for a PLA text that is written, of 16 cubes of five marks. */
 #define VAULT_FORM_SIZE 197
 #define VAULT_LIST_SIZE 32
+#define VAULT_PLA_SIZE 147
 
 /* The combinations, 2^m, and the lines, 3^m, of a sheet of m marks, m from 1 to 5: 2, 4, 8, 16, 32 and 3, 9, 27, 81, 243. */
 #define VAULT_COMBINATIONS(m) (1u << (m))
@@ -166,6 +167,49 @@ struct vault_reply vault_before(const uint8_t *first, size_t first_size, const u
  * Refused: VAULT_UNREADABLE, with the length of the longest beginning of the text that some readable text begins with too.
  */
 struct vault_reply vault_read_time(const void *text, size_t text_size);
+
+/*
+ * PLA texts. A class can be drawn as a Berkeley PLA text of one output, such as
+ *
+ *     # colour, or silent and tinted
+ *     .i 3
+ *     .o 1
+ *     .p 2
+ *     1-- 1
+ *     -11 1
+ *     .e
+ *
+ * A line is what stands between newlines; the last newline may be missing. In a line # begins a comment, up to the line's end and of any bytes.
+ * Of what stands before it, a word is what stands between spaces and tabs, of which there may be any number. A line has no word, or it is
+ *
+ *     .i N      the inputs, which are the marks: 1 to 5
+ *     .o 1      the one output
+ *     .p N      the number of cube lines; a line that is there twice counts twice
+ *     CUBE 1    a cube: one of 0, 1 and - for each input, the leftmost for the highest mark. Cubes may overlap
+ *     .e        the end. What stands behind this word is skipped, in its line and below
+ *
+ * and nothing else: any other line is unreadable. .i and .o come in this order, before any cube; .p comes anywhere, .p and .e may be missing, and
+ * a keyword that comes a second time is unreadable. N is of digits, as many as there are, without a needless zero in front. A carriage return is
+ * no newline, no space and no tab, and a zero byte ends nothing.
+ */
+
+/*
+ * Reads a PLA text, and writes the stored form of the sheet that has the union of the cubes as its class, and holds nothing. The text is lent as
+ * const void *, as above. Value: the bytes written, 5 and one for each combination in the class, so at most 37.
+ * Refused, the lines being judged in order: VAULT_UNREADABLE, with the offset of the first byte of the first unreadable line; VAULT_MARKS as soon
+ * as a readable .i line comes whose inputs are not 1 to 5, whatever stands behind it. Then, at the text's end or at .e: VAULT_UNREADABLE, with the
+ * length of the whole text, if .i or .o has not come; VAULT_UNREADABLE, with the offset of the .p line, if its number is not that of the cubes.
+ * Then VAULT_ROOM if out is too short for the form.
+ */
+struct vault_reply vault_read_pla(const void *text, size_t text_size, uint8_t *out, size_t out_size);
+
+/*
+ * Writes the list of the class as a PLA text, to an area that is lent as void *, so that a char * is passed as it is: .i, .o 1, .p, a cube for
+ * each line of the list in its order, and .e, with single spaces, each line ended by a newline. No zero byte is put behind it. vault_read_pla reads
+ * the class back. Value: the bytes of the text.
+ * Refused: reading's answer; VAULT_ROOM exactly if the text is longer than out.
+ */
+struct vault_reply vault_write_pla(const uint8_t *sheet, size_t sheet_size, void *out, size_t out_size);
 
 #ifdef __cplusplus
 }

@@ -127,8 +127,8 @@ static inline struct vault_reply vault_sheet_swap(struct vault_sheet *s, struct 
 }
 
 /*
- * A sheet begins with one of these: vault_open, or vault_copy of a stored form, which may not lie in s. What s was before does not matter. A
- * refusal leaves no sheet in s: every call on it then answers VAULT_UNREADABLE at place 0.
+ * A sheet begins with one of these: vault_open, or vault_copy of a stored form, or vault_read_pla of a PLA text; form and text may not lie in s. What
+ * s was before does not matter. A refusal leaves no sheet in s: every call on it then answers VAULT_UNREADABLE at place 0.
  */
 static inline struct vault_reply vault_sheet_open(struct vault_sheet *s, uint64_t marks)
 {
@@ -142,6 +142,13 @@ static inline struct vault_reply vault_sheet_read(struct vault_sheet *s, const u
     s->size = 0;
     s->now = 0;
     return vault_sheet_swap(s, vault_copy(bytes, size, vault_sheet_room(s), VAULT_FORM_SIZE));
+}
+
+static inline struct vault_reply vault_sheet_read_pla(struct vault_sheet *s, const void *text, size_t size)
+{
+    s->size = 0;
+    s->now = 0;
+    return vault_sheet_swap(s, vault_read_pla(text, size, vault_sheet_room(s), VAULT_FORM_SIZE));
 }
 
 /* The changes of vault.h. A refusal leaves the sheet as it was; VAULT_ROOM does not come. */
@@ -165,10 +172,15 @@ static inline struct vault_reply vault_sheet_withdraw(struct vault_sheet *s, uin
     return vault_sheet_swap(s, vault_withdraw(vault_sheet_bytes(s), s->size, combination, seconds, vault_sheet_room(s), VAULT_FORM_SIZE));
 }
 
-/* What vault.h tells of a sheet. list has VAULT_LIST_SIZE bytes. */
+/* What vault.h tells of a sheet. list has VAULT_LIST_SIZE bytes, and text, which gets no zero byte at its end, VAULT_PLA_SIZE. */
 static inline struct vault_reply vault_sheet_list(const struct vault_sheet *s, uint8_t *list)
 {
     return vault_list(vault_sheet_bytes(s), s->size, list, VAULT_LIST_SIZE);
+}
+
+static inline struct vault_reply vault_sheet_write_pla(const struct vault_sheet *s, char *text)
+{
+    return vault_write_pla(vault_sheet_bytes(s), s->size, text, VAULT_PLA_SIZE);
 }
 
 static inline struct vault_reply vault_sheet_class_size(const struct vault_sheet *s)

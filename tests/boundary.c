@@ -1,10 +1,12 @@
 /* Every entry at its limits, through vault.h: each answer that it can give, areas of every length around the one that is needed, empty areas with
-   a null pointer and without, numbers above 2^32, guard bytes around what is lent, the known sheets, and calls from threads with small stacks.
+   a null pointer and without, numbers above 2^32, guard bytes around what is lent, the known sheets, PLA texts line by line and byte by byte, and
+   calls from threads with small stacks.
    Prints what failed and the number of checks; the exit status is 0 only if none failed. */
 #define _POSIX_C_SOURCE 200809L
 #include "vault.h"
 #include <pthread.h>
 #include <stdio.h>
+#include <stdlib.h>
 #include <string.h>
 #include <unistd.h>
 
@@ -61,8 +63,9 @@ static int holds(struct area *a, const uint8_t *want, size_t n)
 
 /* ---- the calls that write, as one */
 
-enum entry { OPEN, ENTER, LEAVE, RECEIVE, WITHDRAW, COPY, LIST };
-static const char *const names[] = {"vault_open", "vault_enter", "vault_leave", "vault_receive", "vault_withdraw", "vault_copy", "vault_list"};
+enum entry { OPEN, ENTER, LEAVE, RECEIVE, WITHDRAW, COPY, LIST, WRITE_PLA, READ_PLA };
+static const char *const names[] = {"vault_open", "vault_enter", "vault_leave",     "vault_receive", "vault_withdraw",
+                                    "vault_copy", "vault_list",  "vault_write_pla", "vault_read_pla"};
 
 struct call {
     enum entry entry;
@@ -80,7 +83,9 @@ static struct vault_reply made(const struct call *c, uint8_t *out, size_t n)
     case RECEIVE: return vault_receive(c->sheet, c->size, c->x, c->y, out, n);
     case WITHDRAW: return vault_withdraw(c->sheet, c->size, c->x, c->y, out, n);
     case COPY: return vault_copy(c->sheet, c->size, out, n);
-    default: return vault_list(c->sheet, c->size, out, n);
+    case LIST: return vault_list(c->sheet, c->size, out, n);
+    case WRITE_PLA: return vault_write_pla(c->sheet, c->size, out, n);
+    default: return vault_read_pla(c->sheet, c->size, out, n);
     }
 }
 
@@ -201,14 +206,14 @@ static void reading(void)
     for (size_t i = 0; i < sizeof bad / sizeof *bad; i++) {
         const uint8_t *t = bad[i].bytes;
         size_t n = bad[i].n;
-        for (enum entry e = ENTER; e <= LIST; e++)
+        for (enum entry e = ENTER; e <= WRITE_PLA; e++)
             refuses((struct call){e, t, n, 99, 0}, bad[i].answer, bad[i].place);
         check(is(vault_class_size(t, n), bad[i].answer, bad[i].place, 0), "vault_class_size refuses", (long)i);
         check(is(vault_total(t, n), bad[i].answer, bad[i].place, 0), "vault_total refuses", (long)i);
         check(is(vault_outside(t, n, 0), bad[i].answer, bad[i].place, 0), "vault_outside refuses", (long)i);
         check(is(vault_held(t, n, 0), bad[i].answer, bad[i].place, 0), "vault_held refuses", (long)i);
     }
-    for (enum entry e = ENTER; e <= LIST; e++)
+    for (enum entry e = ENTER; e <= READ_PLA; e++)
         refuses((struct call){e, NULL, 0, 0, 1}, VAULT_UNREADABLE, 0);
     for (size_t n = 0; n < sizeof sample; n++)
         check(is(vault_total(sample, n), VAULT_UNREADABLE, n, 0), "a sheet that ends early", (long)n);
@@ -344,10 +349,505 @@ static void times(void)
     check(is(vault_read_time("5:5\0", 4), VAULT_UNREADABLE, 3, 0), "a zero byte", 0);
 }
 
+/* ---- PLA texts */
+
+/* The form of a sheet that holds nothing. */
+static size_t drawn(uint8_t form[VAULT_FORM_SIZE], uint64_t marks, uint32_t class)
+{
+    size_t n = 3;
+    for (int c = 0; c < 32; c++)
+        if (class >> c & 1)
+            form[n++] = (uint8_t)c;
+    form[0] = (uint8_t)marks;
+    form[1] = (uint8_t)(n - 3);
+    form[2] = form[n] = form[n + 1] = 0;
+    return n + 2;
+}
+
+/* Text of so many bytes draws this class. */
+static void draws(const char *text, size_t size, uint64_t marks, uint32_t class)
+{
+    uint8_t form[VAULT_FORM_SIZE];
+    size_t n = drawn(form, marks, class);
+    writes((struct call){READ_PLA, (const uint8_t *)text, size, 0, 0}, form, n, n);
+}
+
+/* A text that is read, and draws a class (answer 0), or that is refused. */
+struct text {
+    const char *text;
+    uint64_t answer, place;
+    uint64_t marks;
+    uint32_t class;
+};
+
+static void texts(const struct text *t, size_t n)
+{
+    for (size_t i = 0; i < n; i++, t++) {
+        int before = faults;
+        size_t size = strlen(t->text);
+        if (t->answer == VAULT_DONE)
+            draws(t->text, size, t->marks, t->class);
+        else
+            refuses((struct call){READ_PLA, (const uint8_t *)t->text, size, 0, 0}, t->answer, t->place);
+        if (faults != before)
+            printf("    the text:\n%s\n", t->text);
+    }
+}
+
+#define TEXTS(rows) texts(rows, sizeof rows / sizeof *rows)
+
+/* `.i 2` and `.o 1`, which end at 10. */
+#define HEAD ".i 2\n.o 1\n"
+
+static void texts_that_draw(void)
+{
+    static const struct text t[] = {
+        {HEAD ".p 2\n01 1\n1- 1\n.e\n", 0, 0, 2, 0xe},
+        {HEAD, 0, 0, 2, 0},
+        {".i 2\n.o 1", 0, 0, 2, 0},
+        {".i 1\n.o 1\n0 1\n", 0, 0, 1, 1},
+        {".i 1\n.o 1\n1 1\n", 0, 0, 1, 2},
+        {".i 1\n.o 1\n- 1\n", 0, 0, 1, 3},
+        {".i 3\n.o 1\n100 1\n", 0, 0, 3, 0x10},
+        {".i 3\n.o 1\n001 1\n", 0, 0, 3, 0x2},
+        {".i 3\n.o 1\n1-0 1\n", 0, 0, 3, 0x50},
+        {".i 4\n.o 1\n1--- 1\n", 0, 0, 4, 0xff00},
+        {".i 5\n.o 1\n----- 1\n", 0, 0, 5, 0xffffffff},
+        {".i 5\n.o 1\n11111 1\n00000 1\n", 0, 0, 5, 0x80000001},
+        {".i 5\n.o 1\n1--10 1\n", 0, 0, 5, 0x44440000},
+        /* spaces, tabs, blank lines, comments */
+        {"\n\n" HEAD "\n01 1\n\n", 0, 0, 2, 2},
+        {" .i 2\n\t.o 1\n 01 1\n", 0, 0, 2, 2},
+        {".i 2 \n.o 1\t\n01 1  \n", 0, 0, 2, 2},
+        {".i\t2\n.o \t 1\n01\t\t1\n.p   1\n", 0, 0, 2, 2},
+        {" \n\t\n \t \n" HEAD " \n", 0, 0, 2, 0},
+        {"# a class\n" HEAD "01 1\n", 0, 0, 2, 2},
+        {".i 2# two\n.o 1#\n01 1#1\n.p 1 #2\n", 0, 0, 2, 2},
+        {".i 2 #.i 3\n.o 1\n#01 1\n  # .e\n10 1", 0, 0, 2, 4},
+        {HEAD "01 1\n##\n#", 0, 0, 2, 2},
+        {HEAD "# \r\v\f\x01\x7f\x80\xff .end ## 01 0\n11 1\n", 0, 0, 2, 8},
+        /* the end */
+        {HEAD "01 1\n.e\n11 1\n", 0, 0, 2, 2},
+        {HEAD "01 1\n.e", 0, 0, 2, 2},
+        {HEAD "01 1\n \t.e\t\n", 0, 0, 2, 2},
+        {HEAD "01 1\n.e junk\n", 0, 0, 2, 2},
+        {HEAD "01 1\n.e#x\njunk\n", 0, 0, 2, 2},
+        {HEAD "01 1\n.e .e .i 9\n.i 9\n.p 7\n\r", 0, 0, 2, 2},
+        {HEAD ".e\n.e\n", 0, 0, 2, 0},
+        {HEAD ".p 1\n01 1\n.e\n01 1\n", 0, 0, 2, 2},
+        /* .p anywhere, and every cube line counts */
+        {".p 1\n" HEAD "01 1\n", 0, 0, 2, 2},
+        {".i 2\n.p 1\n.o 1\n01 1\n", 0, 0, 2, 2},
+        {HEAD "01 1\n.p 2\n11 1\n", 0, 0, 2, 0xa},
+        {HEAD "01 1\n.p 1", 0, 0, 2, 2},
+        {HEAD "01 1\n.p 1\n.e\n.p 1\n", 0, 0, 2, 2},
+        {HEAD ".p 0\n", 0, 0, 2, 0},
+        {HEAD ".p 3\n01 1\n01 1\n01 1\n", 0, 0, 2, 2},
+        {HEAD ".p 3\n-1 1\n1- 1\n11 1\n", 0, 0, 2, 0xe},
+        {HEAD ".p 10\n00 1\n00 1\n00 1\n00 1\n00 1\n00 1\n00 1\n00 1\n00 1\n00 1\n", 0, 0, 2, 1},
+        {HEAD "01 1\n#.p 2\n", 0, 0, 2, 2},
+    };
+    TEXTS(t);
+}
+
+static void unreadable_lines(void)
+{
+    static const struct text t[] = {
+        {"", 10, 0, 0, 0},
+        /* .i: one number, without needless zeros; once */
+        {".i\n.o 1\n", 10, 0, 0, 0},
+        {".i2\n.o 1\n", 10, 0, 0, 0},
+        {".i4\n", 10, 0, 0, 0},
+        {".i 02\n.o 1\n", 10, 0, 0, 0},
+        {".i 00\n", 10, 0, 0, 0},
+        {".i 07\n", 10, 0, 0, 0},
+        {".i 2 2\n", 10, 0, 0, 0},
+        {".i 9 9\n", 10, 0, 0, 0},
+        {".i +2\n", 10, 0, 0, 0},
+        {".i -2\n", 10, 0, 0, 0},
+        {".i 2.\n", 10, 0, 0, 0},
+        {".i 0x2\n", 10, 0, 0, 0},
+        {".i 9x\n", 10, 0, 0, 0},
+        {".i /\n", 10, 0, 0, 0},
+        {".i :\n", 10, 0, 0, 0},
+        {".I 2\n", 10, 0, 0, 0},
+        {"i 2\n", 10, 0, 0, 0},
+        {". i 2\n", 10, 0, 0, 0},
+        {"..i 2\n", 10, 0, 0, 0},
+        {".i#2\n", 10, 0, 0, 0},
+        {"\n\n.i x\n", 10, 2, 0, 0},
+        {"# c\n  .i x\n", 10, 4, 0, 0},
+        {".i 2\n.i 2\n", 10, 5, 0, 0},
+        {".i 2\n.i 9\n", 10, 5, 0, 0},
+        {".i 2\n.i 0\n", 10, 5, 0, 0},
+        {HEAD "01 1\n.i 2\n", 10, 15, 0, 0},
+        /* .o: 1 alone; once, behind .i */
+        {".o 1\n.i 2\n", 10, 0, 0, 0},
+        {"\n.o 1\n", 10, 1, 0, 0},
+        {".i 2\n.o 2\n", 10, 5, 0, 0},
+        {".i 2\n.o 0\n", 10, 5, 0, 0},
+        {".i 2\n.o 01\n", 10, 5, 0, 0},
+        {".i 2\n.o 11\n", 10, 5, 0, 0},
+        {".i 2\n.o\n", 10, 5, 0, 0},
+        {".i 2\n.o1\n", 10, 5, 0, 0},
+        {".i 2\n.o 1 1\n", 10, 5, 0, 0},
+        {".i 2\n.O 1\n", 10, 5, 0, 0},
+        {HEAD ".o 1\n", 10, 10, 0, 0},
+        {HEAD "01 1\n.o 1\n", 10, 15, 0, 0},
+        /* .p: one number, without needless zeros; once */
+        {HEAD ".p\n", 10, 10, 0, 0},
+        {HEAD ".p0\n", 10, 10, 0, 0},
+        {HEAD ".p 00\n", 10, 10, 0, 0},
+        {HEAD ".p 01\n01 1\n", 10, 10, 0, 0},
+        {HEAD ".p 0 0\n", 10, 10, 0, 0},
+        {HEAD ".p -0\n", 10, 10, 0, 0},
+        {HEAD ".p 0\n.p 0\n", 10, 15, 0, 0},
+        {".p 1\n" HEAD "01 1\n.p 1\n", 10, 20, 0, 0},
+        {".p 9\n.p x\n" HEAD, 10, 5, 0, 0},
+        /* cubes: behind .o, of as many signs as there are inputs, a gap, and 1 */
+        {"01 1\n" HEAD, 10, 0, 0, 0},
+        {".i 2\n01 1\n.o 1\n", 10, 5, 0, 0},
+        {HEAD "0 1\n", 10, 10, 0, 0},
+        {HEAD "010 1\n", 10, 10, 0, 0},
+        {HEAD "01 1\n011 1\n", 10, 15, 0, 0},
+        {HEAD "01\n", 10, 10, 0, 0},
+        {HEAD "011\n", 10, 10, 0, 0},
+        {".i 4\n.o 1\n0101\n", 10, 10, 0, 0},
+        {".i 3\n.o 1\n0101\n", 10, 10, 0, 0},
+        {HEAD "01 0\n", 10, 10, 0, 0},
+        {HEAD "01 -\n", 10, 10, 0, 0},
+        {HEAD "01 ~\n", 10, 10, 0, 0},
+        {HEAD "01 2\n", 10, 10, 0, 0},
+        {HEAD "01 11\n", 10, 10, 0, 0},
+        {HEAD "01 01\n", 10, 10, 0, 0},
+        {HEAD "01 1 1\n", 10, 10, 0, 0},
+        {HEAD "0 1 1\n", 10, 10, 0, 0},
+        {HEAD "02 1\n", 10, 10, 0, 0},
+        {HEAD "0x 1\n", 10, 10, 0, 0},
+        {HEAD "0~ 1\n", 10, 10, 0, 0},
+        {HEAD "01|1\n", 10, 10, 0, 0},
+        {HEAD "0#1 1\n", 10, 10, 0, 0},
+        {HEAD "01 #1\n", 10, 10, 0, 0},
+        {HEAD "1\n", 10, 10, 0, 0},
+        {".i 5\n.o 1\n---- 1\n", 10, 10, 0, 0},
+        {".i 5\n.o 1\n------ 1\n", 10, 10, 0, 0},
+        /* the end, glued; other keywords; other bytes */
+        {HEAD ".end\n", 10, 10, 0, 0},
+        {HEAD ".ex\n", 10, 10, 0, 0},
+        {HEAD ".e.\n", 10, 10, 0, 0},
+        {HEAD ".E\n", 10, 10, 0, 0},
+        {HEAD "e\n", 10, 10, 0, 0},
+        {HEAD ". e\n", 10, 10, 0, 0},
+        {HEAD "01 1 .e\n", 10, 10, 0, 0},
+        {HEAD ".\n", 10, 10, 0, 0},
+        {HEAD ".ilb a b\n", 10, 10, 0, 0},
+        {HEAD ".ob z\n", 10, 10, 0, 0},
+        {HEAD ".type f\n", 10, 10, 0, 0},
+        {".i 2\r\n.o 1\r\n", 10, 0, 0, 0},
+        {HEAD "01 1\r\n", 10, 10, 0, 0},
+        {HEAD "\r\n", 10, 10, 0, 0},
+        {HEAD ".e\r\n", 10, 10, 0, 0},
+        {HEAD "01\v1\n", 10, 10, 0, 0},
+        {HEAD "\f\n", 10, 10, 0, 0},
+        {HEAD "01\xa0" "1\n", 10, 10, 0, 0},
+        {"\xef\xbb\xbf" HEAD, 10, 0, 0, 0},
+    };
+    TEXTS(t);
+}
+
+/* Which of several answers comes. */
+static void order_of_answers(void)
+{
+    static const struct text t[] = {
+        /* inputs not 1 to 5: at once, and before every fault behind it */
+        {".i 0\n.o 1\n", 1, 0, 0, 0},
+        {".i 6\n.o 1\n", 1, 0, 0, 0},
+        {".i 9", 1, 0, 0, 0},
+        {".i 10\n", 1, 0, 0, 0},
+        {".i 50\n", 1, 0, 0, 0},
+        {".i 6\njunk\n", 1, 0, 0, 0},
+        {".i 6\n.i 2\n.o 2\n", 1, 0, 0, 0},
+        {".i 6#5\n.e\n", 1, 0, 0, 0},
+        {"\n  .p 7\n.i 0\n.p 7\n", 1, 0, 0, 0},
+        {".i 6\n.o 1\n.p 9\n010101 1\n", 1, 0, 0, 0},
+        /* but not before those in front of it, nor if it is skipped */
+        {"junk\n.i 6\n", 10, 0, 0, 0},
+        {".o 1\n.i 6\n", 10, 0, 0, 0},
+        {".p 1\n.p 1\n.i 6\n", 10, 5, 0, 0},
+        {".e\n.i 6\n", 10, 8, 0, 0},
+        /* numbers of any length */
+        {".i 99999999999999999999\n", 1, 0, 0, 0},
+        {".i 18446744073709551618\n.o 1\n", 1, 0, 0, 0},
+        {".i 4294967298\n.o 1\n", 1, 0, 0, 0},
+        {".i 65538\n", 1, 0, 0, 0},
+        {".i 258\n", 1, 0, 0, 0},
+        {".i 36893488147419103234\n", 1, 0, 0, 0},
+        {".i 340282366920938463463374607431768211458\n", 1, 0, 0, 0},
+        {HEAD ".p 18446744073709551617\n01 1\n", 10, 10, 0, 0},
+        {HEAD ".p 18446744073709551616\n", 10, 10, 0, 0},
+        {HEAD ".p 18446744073709551615\n", 10, 10, 0, 0},
+        {HEAD ".p 36893488147419103233\n01 1\n", 10, 10, 0, 0},
+        {HEAD ".p 340282366920938463463374607431768211457\n01 1\n", 10, 10, 0, 0},
+        {HEAD ".p 4294967297\n01 1\n", 10, 10, 0, 0},
+        {HEAD ".p 65537\n01 1\n", 10, 10, 0, 0},
+        {HEAD ".p 257\n01 1\n", 10, 10, 0, 0},
+        {HEAD ".p 99999999999999999999\n", 10, 10, 0, 0},
+        /* .i or .o never comes: the length, of the whole input */
+        {"\n", 10, 1, 0, 0},
+        {"# nothing", 10, 9, 0, 0},
+        {".i 2\n", 10, 5, 0, 0},
+        {".i 2", 10, 4, 0, 0},
+        {".i 2\n.e\n.o 1\n", 10, 13, 0, 0},
+        {".e\n" HEAD, 10, 13, 0, 0},
+        {".e", 10, 2, 0, 0},
+        {".p 5\n", 10, 5, 0, 0},
+        {".p 5\n.i 2\n.e\n", 10, 13, 0, 0},
+        /* .p, last of all: above and below */
+        {HEAD ".p 1\n", 10, 10, 0, 0},
+        {HEAD ".p 0\n01 1\n", 10, 10, 0, 0},
+        {HEAD ".p 2\n01 1\n", 10, 10, 0, 0},
+        {HEAD ".p 2\n01 1\n01 1\n01 1\n", 10, 10, 0, 0},
+        {HEAD ".p 2\n01 1\n.e\n01 1\n", 10, 10, 0, 0},
+        {".p 7\n" HEAD "01 1\n", 10, 0, 0, 0},
+        {"\n  .p 7\n" HEAD "01 1\n", 10, 1, 0, 0},
+        {HEAD "01 1\n.p 7", 10, 15, 0, 0},
+        {HEAD ".p 7\n01 1\n01 0\n", 10, 20, 0, 0},
+        {HEAD ".p 7\n01 1\n.p 1\n", 10, 20, 0, 0},
+        {HEAD ".p 0\n# 01 1\n", 0, 0, 2, 0},
+    };
+    TEXTS(t);
+    static const char zero[] = HEAD "01\0" "1\n", behind[] = HEAD "01 1\0\n", comment[] = HEAD "01 1 #\0\n10 1\n.e\0";
+    refuses((struct call){READ_PLA, (const uint8_t *)zero, sizeof zero - 1, 0, 0}, VAULT_UNREADABLE, 10);
+    refuses((struct call){READ_PLA, (const uint8_t *)behind, sizeof behind - 1, 0, 0}, VAULT_UNREADABLE, 10);
+    refuses((struct call){READ_PLA, (const uint8_t *)comment, sizeof comment - 1, 0, 0}, VAULT_UNREADABLE, 23);
+    draws(comment, sizeof comment - 2, 2, 6);
+    refuses((struct call){READ_PLA, (const uint8_t *)"\0", 1, 0, 0}, VAULT_UNREADABLE, 0);
+}
+
+/* A text that ends after each of its bytes: where it can be read, and otherwise the place. */
+static void texts_that_end_early(void)
+{
+    static const char text[] = HEAD ".p 2\n01 1\n1- 1\n.e\n";
+    static const int place[] = {0, 0, 0, 0, 4, 5, 5, 5, 5, -1, -1, 10, 10, 10, 10, 10, 15, 15, 15, 10, 10, 20, 20, 20, -1, -1, 25, -1, -1};
+    _Static_assert(sizeof text == sizeof place / sizeof *place, "a place for each length");
+    for (size_t n = 0; n < sizeof text; n++)
+        if (place[n] < 0)
+            draws(text, n, 2, n > 20 ? 0xe : 0);
+        else
+            refuses((struct call){READ_PLA, (const uint8_t *)text, n, 0, 0}, VAULT_UNREADABLE, (uint64_t)place[n]);
+}
+
+/* What reading the text with another byte at one place answers, and the size of the class. */
+static void byte_at(const char *text, size_t at, int byte, uint64_t answer, uint64_t place, uint64_t combinations)
+{
+    uint8_t changed[64], form[VAULT_FORM_SIZE];
+    size_t n = strlen(text);
+    memcpy(changed, text, n);
+    changed[at] = (uint8_t)byte;
+    struct vault_reply r = vault_read_pla(changed, n, form, sizeof form);
+    check(is(r, answer, place, answer == VAULT_DONE ? 5 + combinations : 0), text, byte);
+}
+
+/* Every byte at each place of a line that means something. `?` stands for it. */
+static void bytes_of_a_line(void)
+{
+    for (int b = 0; b < 256; b++) {
+        int gap = b == ' ' || b == '\t', stop = b == '\n' || b == '#', digit = b >= '0' && b <= '9';
+        byte_at(".i 2?\n.o 1\n", 4, b, gap || stop ? 0 : digit ? 1 : 10, 0, 0);
+        byte_at(".i ?\n.o 1\n", 3, b, b >= '1' && b <= '5' ? 0 : digit ? 1 : 10, 0, 0);
+        byte_at(".i?2\n.o 1\n", 2, b, gap ? 0 : 10, 0, 0);
+        byte_at("?.i 2\n.o 1\n", 0, b, gap || b == '\n' ? 0 : 10, b == '#' ? 6 : 0, 0);
+        byte_at(HEAD "?01 1\n", 10, b, gap || stop ? 0 : 10, gap || stop ? 0 : 10, b == '#' ? 0 : 1);
+        byte_at(HEAD "01?1\n", 12, b, gap ? 0 : 10, gap ? 0 : 10, 1);
+        byte_at(HEAD "0? 1\n", 11, b, b == '0' || b == '1' || b == '-' ? 0 : 10, b == '0' || b == '1' || b == '-' ? 0 : 10, b == '-' ? 2 : 1);
+        byte_at(HEAD "01 ?\n", 13, b, b == '1' ? 0 : 10, b == '1' ? 0 : 10, 1);
+        byte_at(HEAD "01 1?\n", 14, b, gap || stop ? 0 : 10, gap || stop ? 0 : 10, 1);
+        byte_at(HEAD "01 1#?\n", 15, b, 0, 0, 1);
+        byte_at(HEAD "01 1\n.e?\n", 17, b, gap || stop ? 0 : 10, gap || stop ? 0 : 15, 1);
+        byte_at(HEAD "01 1\n.e ?", 18, b, 0, 0, 1);
+        byte_at(HEAD "01 1\n.p ?", 18, b, b == '1' ? 0 : 10, b == '1' ? 0 : 15, 1);
+        byte_at(HEAD "01 1?", 14, b, gap || stop ? 0 : 10, gap || stop ? 0 : 10, 1);
+    }
+}
+
+/* A text in parts that are put one behind the other. */
+struct long_text {
+    char *bytes;
+    size_t n;
+};
+
+static struct long_text begun(void)
+{
+    struct long_text t = {malloc(4 << 20), 0};
+    if (t.bytes == NULL) {
+        printf("no memory\n");
+        exit(2);
+    }
+    return t;
+}
+
+static void add(struct long_text *t, const char *part, size_t times)
+{
+    for (size_t n = strlen(part); times-- > 0; t->n += n)
+        memcpy(t->bytes + t->n, part, n);
+}
+
+/* Reads a long text once, into an area of the size that is wanted, and forgets it. */
+static void long_text(struct long_text t, uint64_t answer, uint64_t place, uint32_t class, const char *what)
+{
+    uint8_t form[VAULT_FORM_SIZE];
+    size_t n = drawn(form, 5, class);
+    struct area *a = lent(n);
+    struct vault_reply r = vault_read_pla(t.bytes, t.n, a->p, a->n);
+    check(answer == VAULT_DONE ? is(r, 0, 0, n) && holds(a, form, n) : is(r, answer, place, 0) && untouched(a), what, (long)t.n);
+    if (answer == VAULT_DONE) {
+        a = lent(n - 1);
+        check(is(vault_read_pla(t.bytes, t.n, a->p, a->n), VAULT_ROOM, 0, 0) && untouched(a), what, -1);
+    }
+    free(t.bytes);
+}
+
+static void long_texts(void)
+{
+    static const char *const counts[] = {"100000", "99999", "100001"};
+    struct long_text t;
+    for (int i = 0; i < 3; i++) {
+        t = begun();
+        add(&t, ".i 5\n.o 1\n.p ", 1);
+        add(&t, counts[i], 1);
+        add(&t, "\n", 1);
+        add(&t, "10-01 1\n", 100000);
+        long_text(t, i == 0 ? 0 : 10, 10, 0x220000, "a hundred thousand cubes");
+    }
+    for (int i = 0; i < 2; i++) {
+        t = begun();
+        add(&t, ".i 5\n.o 1\n#", 1);
+        add(&t, "\xff .e \r", 200000);
+        add(&t, i == 0 ? "\n00000 1" : "\n00000 2", 1);
+        long_text(t, i == 0 ? 0 : 10, 12 + 200000 * 6, 1, "a long comment");
+    }
+    for (int i = 0; i < 3; i++) {
+        t = begun();
+        add(&t, ".i 5\n.o 1\n.p 1", 1);
+        add(&t, "0", 500000);
+        add(&t, i == 0 ? "\n" : i == 1 ? "x\n" : "\n.i", 1);
+        long_text(t, 10, i == 2 ? 14 + 500000 + 1 : 10, 0, "a number of many digits");
+    }
+    t = begun();
+    add(&t, ".i 5", 1);
+    add(&t, "0", 500000);
+    long_text(t, 1, 0, 0, "as many inputs");
+    t = begun();
+    add(&t, "\t \n", 300000);
+    add(&t, ".i 5\n.o 1\n", 1);
+    add(&t, " ", 300000);
+    add(&t, "1----", 1);
+    add(&t, "\t", 300000);
+    add(&t, "1", 1);
+    long_text(t, 0, 0, 0xffff0000, "wide gaps");
+    t = begun();
+    add(&t, ".i 5\n.o 1\n", 1);
+    add(&t, "1", 300000);
+    add(&t, " 1\n", 1);
+    long_text(t, 10, 10, 0, "a wide cube");
+}
+
+static size_t pattern(char *to, uint64_t marks, uint64_t b)
+{
+    for (uint64_t i = marks; i-- > 0; b /= 3)
+        to[i] = "01-"[b % 3];
+    return (size_t)marks;
+}
+
+/* Each cube of each number of inputs by itself: its combinations are those that are not outside; and all of them in one text. */
+static void every_cube(void)
+{
+    for (uint64_t m = 1; m <= 5; m++) {
+        char text[32], all[4096];
+        uint8_t form[VAULT_FORM_SIZE];
+        int head = snprintf(text, sizeof text, ".i %d\n.o 1\n", (int)m), n = snprintf(all, sizeof all, ".p %d\n%s", (int)VAULT_LINES(m), text);
+        for (uint64_t b = 0; b < VAULT_LINES(m); b++) {
+            size_t size = (size_t)head + pattern(text + head, m, b);
+            memcpy(text + size, " 1", 2);
+            n += snprintf(all + n, sizeof all - (size_t)n, "%.*s\n", (int)m + 2, text + head);
+            struct vault_reply r = vault_read_pla(text, size + 2, form, sizeof form);
+            uint32_t class = 0;
+            for (uint32_t c = 0; c < VAULT_COMBINATIONS(m); c++) {
+                uint64_t in = 1;
+                for (uint64_t i = 0, x = b; i < m; i++, x /= 3)
+                    in = in && (x % 3 == 2 || x % 3 == (c >> i) % 2);
+                class |= (uint32_t)in << c;
+            }
+            uint8_t want[VAULT_FORM_SIZE];
+            size_t k = drawn(want, m, class);
+            check(is(r, VAULT_DONE, 0, k) && memcmp(form, want, k) == 0, "a cube", (long)b);
+        }
+        draws(all, (size_t)n, m, (uint32_t)((UINT64_C(1) << VAULT_COMBINATIONS(m)) - 1));
+    }
+}
+
+/* The text of a sheet is written exactly if there is room for it, and it is read back. */
+static void text_of(const uint8_t *form, size_t n, const char *want)
+{
+    size_t size = strlen(want);
+    uint8_t back[VAULT_FORM_SIZE], again[VAULT_PLA_SIZE];
+    writes((struct call){WRITE_PLA, form, n, 0, 0}, (const uint8_t *)want, size, size);
+    struct vault_reply r = vault_read_pla(want, size, back, sizeof back);
+    check(r.answer == VAULT_DONE && memcmp(back, form, 3 + (size_t)form[1]) == 0 && r.value == 5 + (uint64_t)form[1], "a text read back", (long)n);
+    check(is(vault_write_pla(back, (size_t)r.value, again, sizeof again), VAULT_DONE, 0, size) && memcmp(again, want, size) == 0, "written again", (long)n);
+}
+
+static void writing_texts(void)
+{
+    static const struct {
+        uint64_t marks;
+        uint32_t class;
+        const char *text;
+    } known[] = {
+        {1, 0, ".i 1\n.o 1\n.p 0\n.e\n"},
+        {1, 1, ".i 1\n.o 1\n.p 1\n0 1\n.e\n"},
+        {1, 2, ".i 1\n.o 1\n.p 1\n1 1\n.e\n"},
+        {1, 3, ".i 1\n.o 1\n.p 1\n- 1\n.e\n"},
+        {2, 0x9, ".i 2\n.o 1\n.p 2\n00 1\n11 1\n.e\n"},
+        {2, 0x7, ".i 2\n.o 1\n.p 2\n0- 1\n10 1\n.e\n"},
+        {2, 0xe, ".i 2\n.o 1\n.p 2\n01 1\n1- 1\n.e\n"},
+        {2, 0xf, ".i 2\n.o 1\n.p 1\n-- 1\n.e\n"},
+        {3, 0x96, ".i 3\n.o 1\n.p 4\n001 1\n010 1\n100 1\n111 1\n.e\n"},
+        {3, 0x7e, ".i 3\n.o 1\n.p 3\n0-1 1\n-10 1\n10- 1\n.e\n"},
+        {5, 0, ".i 5\n.o 1\n.p 0\n.e\n"},
+        {5, 0xffffffff, ".i 5\n.o 1\n.p 1\n----- 1\n.e\n"},
+        {5, 0x5ccc3ce0, ".i 5\n.o 1\n.p 6\n00101 1\n0011- 1\n-101- 1\n0110- 1\n10-1- 1\n111-0 1\n.e\n"},
+        {5, 0x69969669,
+         ".i 5\n.o 1\n.p 16\n00000 1\n00011 1\n00101 1\n00110 1\n01001 1\n01010 1\n01100 1\n01111 1\n10001 1\n10010 1\n10100 1\n10111 1\n11000 1\n"
+         "11011 1\n11101 1\n11110 1\n.e\n"},
+    };
+    uint8_t form[VAULT_FORM_SIZE];
+    for (size_t i = 0; i < sizeof known / sizeof *known; i++)
+        text_of(form, drawn(form, known[i].marks, known[i].class), known[i].text);
+    check(strlen(known[13].text) == VAULT_PLA_SIZE, "the longest text", (long)strlen(known[13].text));
+    /* what is held does not show, and the longest form has the shortest list */
+    text_of(sample, sizeof sample, known[6].text);
+    text_of(form, longest(form), known[11].text);
+    text_of(full, sizeof full, known[0].text);
+}
+
+static void pla(void)
+{
+    texts_that_draw();
+    unreadable_lines();
+    order_of_answers();
+    texts_that_end_early();
+    bytes_of_a_line();
+    long_texts();
+    every_cube();
+    writing_texts();
+}
+
 /* Threads with the stack that the header names and some for the C library itself (or the least there is), each on its own areas. */
 static void *night(void *arg)
 {
     uint8_t form[2][VAULT_FORM_SIZE], list[VAULT_LIST_SIZE];
+    char text[VAULT_PLA_SIZE];
     unsigned long seed = (unsigned long)(size_t)arg, wrong = 0;
     size_t n = (size_t)vault_open(5, form[0], VAULT_FORM_SIZE).value;
     uint64_t size = 0, total = 0;
@@ -369,6 +869,8 @@ static void *night(void *arg)
         r = vault_list(form[now], n, list, sizeof list);
         wrong += r.answer != VAULT_DONE || (size > 0 && r.value == 0) || vault_class_size(form[now], n).value != size ||
                  vault_total(form[now], n).value != total;
+        r = vault_write_pla(form[now], n, text, sizeof text);
+        wrong += r.answer != VAULT_DONE || vault_read_pla(text, (size_t)r.value, form[!now], VAULT_FORM_SIZE).value != 5 + size;
     }
     return (void *)(size_t)wrong;
 }
@@ -400,6 +902,7 @@ int main(void)
     lines();
     comparing();
     times();
+    pla();
     threads();
     printf("boundary: %d checks, %d failed\n", checks, faults);
     return faults != 0;

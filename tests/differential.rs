@@ -1,5 +1,6 @@
-//! Compares the library with tests/model.rs: the list of every class of up to four marks, then random calls of every entry. They go to a program that
-//! makes them (tests/driver.c), and its replies and all the bytes of the areas that were lent, with those around them, must be the model's.
+//! Compares the library with tests/model.rs: of every class of up to four marks the list, the PLA text, and that text read back; then random calls of
+//! every entry. They go to a program that makes them (tests/driver.c), and its replies and all the bytes of the areas that were lent, with those
+//! around them, must be the model's.
 //!
 //!     differential CALLS SEED PROGRAM WORD..
 //!
@@ -7,12 +8,22 @@
 
 mod model;
 
-use model::{done, is_before, refused, Lists, Reply, Sheet, Times, MOST_AMOUNT, MOST_HELD};
+use model::{cube, done, is_before, pla, read_pla, refused, Lists, Reply, Sheet, Times, MOST_AMOUNT, MOST_HELD};
 use std::io::{Read, Write};
 use std::process::{Child, Command, Stdio};
 
-const NAMES: [&str; 13] =
-    ["open", "enter", "leave", "receive", "withdraw", "copy", "list", "class_size", "total", "outside", "held", "before", "read_time"];
+#[rustfmt::skip]
+const NAMES: [&str; 15] = ["open", "enter", "leave", "receive", "withdraw", "copy", "list", "class_size", "total", "outside", "held", "before", "read_time",
+    "read_pla", "write_pla"];
+
+/// Lines that no PLA text of ours has, or that have a meaning of their own.
+#[rustfmt::skip]
+const ODD_LINES: [&str; 48] = [".ilb a b", ".ob z", ".type fd", ".names a b", ".end", ".ex", ".E", ".e", ".e#x", ".e junk", " .e", "..e", ". e", "e", ".", ".i",
+    ".o", ".p", ".i4", ".i4 ", ".o1", ".p1", ".i 4 4", ".o 1 1", ".p 1 1", ".o 2", ".o 0", ".o 01", ".o", ".i x", ".i -1", ".i +1", ".i 0x1", ".i 1.", ". i 2",
+    ".I 2", "i 2", "0101", "0101 0", "0101 ~", "0101 2", "0101 1 1", "1", "1 1", "- 1", "#", "\r", "0101|1"];
+
+/// Bytes that have a meaning, or look as if they had one.
+const SIGNS: &[u8] = b"01-.iope#0123456789 \t\n\r\0\x0b\x0c\x1a\x7f\x80\xff2~|";
 
 /// xorshift64*: the same calls for the same seed, everywhere.
 struct Random(u64);
@@ -79,6 +90,15 @@ struct Call {
     areas: Vec<Area>,
     reply: Reply,
     later: Vec<Vec<u8>>,
+}
+
+/// The bytes of a batch of calls, behind which no further call is put into it.
+const MOST_BYTES: usize = 1 << 20;
+
+impl Call {
+    fn size(&self) -> usize {
+        self.later.iter().map(Vec::len).sum()
+    }
 }
 
 /// What is to be written to an area, or the refusal.
@@ -340,8 +360,180 @@ impl Tests {
         self.telling(12, [0, 0], vec![text], reply)
     }
 
+    /// Spaces and tabs, at least some.
+    fn gap(&mut self, least: usize) -> Vec<u8> {
+        let n = least + if self.r.one_in(8) { self.r.below(4) as usize } else { 0 };
+        (0..n).map(|_| if self.r.one_in(3) { b'\t' } else { b' ' }).collect()
+    }
+
+    fn comment(&mut self) -> Vec<u8> {
+        let n = self.r.of(&[0, 1, 5, 20, 300]);
+        let any = self.r.bytes(n).into_iter().filter(|&b| b != b'\n');
+        [b'#'].into_iter().chain(any).collect()
+    }
+
+    fn line(&mut self, words: [&str; 2]) -> Vec<u8> {
+        let mut line = [self.gap(0), words[0].into(), self.gap(1), words[1].into(), self.gap(0)].concat();
+        if self.r.one_in(12) {
+            line.extend(self.comment());
+        }
+        line
+    }
+
+    /// A number in words: the right one, or one that is near, that has its low bits, that has more zeros, or more digits than any type.
+    fn count(&mut self, right: u64) -> String {
+        let wide = u128::from(right);
+        match self.r.below(16) {
+            0 => (right + 1).to_string(),
+            1 => right.saturating_sub(1).to_string(),
+            2 => (wide + self.r.of(&[1 << 8, 1 << 16, 1 << 31, 1 << 32, 1 << 63, 1 << 64, 1 << 65, 1 << 96, 10 << 64])).to_string(),
+            3 => format!("0{right}"),
+            4 => self.r.of(&["0", "00", "5", "6", "07", "10", "99999999999999999999", "18446744073709551615", "1x", "٣"]).to_string(),
+            5 => format!("{right}{}", "0".repeat(self.r.of(&[1, 19, 20, 39, 400]))),
+            6 => format!("{}{right}", self.r.of(&["1", "9", "+", "-", "0x", "36893488147419103232"])),
+            _ => right.to_string(),
+        }
+    }
+
+    /// The lines of a text that can be read, if `good`; and mostly else.
+    fn drawing(&mut self, good: bool, most: u64) -> Vec<Vec<u8>> {
+        let marks = self.r.of(&[1, 2, 3, 4, 5, 5]);
+        let n = if self.r.one_in(8) { self.r.below(most) } else { self.r.below(12) };
+        let mut lines = Vec::new();
+        let inputs = if good { marks.to_string() } else { self.count(u64::from(marks)) };
+        lines.push(self.line([".i", &inputs]));
+        lines.push(self.line([".o", "1"]));
+        for _ in 0..n {
+            let b = self.r.below(3u64.pow(marks));
+            lines.push(self.line([&cube(marks, b), "1"]));
+        }
+        if !self.r.one_in(4) {
+            let count = if good { n.to_string() } else { self.count(n) };
+            let at = if self.r.one_in(2) { 2 } else { self.r.below(lines.len() as u64 + 1) as usize };
+            let line = self.line([".p", &count]);
+            lines.insert(at, line);
+        }
+        for _ in 0..self.r.of(&[0, 0, 0, 1, 2]) {
+            let at = self.r.below(lines.len() as u64 + 1) as usize;
+            let blank = if self.r.one_in(2) { self.gap(0) } else { self.comment() };
+            lines.insert(at, blank);
+        }
+        if !self.r.one_in(3) {
+            lines.push([self.gap(0), self.r.of(&[".e", ".e", ".e ", ".e junk", ".e#", ".e .i 9"]).into()].concat());
+            if self.r.one_in(3) {
+                let n = self.r.below(60);
+                lines.push(self.r.bytes(n));
+            }
+        }
+        lines
+    }
+
+    /// Lines exchanged, left out, twice, or others among them.
+    fn disorder(&mut self, lines: &mut Vec<Vec<u8>>) {
+        let n = lines.len() as u64;
+        let i = self.r.below(n) as usize;
+        let j = self.r.below(n) as usize;
+        let odd = self.r.of(&ODD_LINES).as_bytes().to_vec();
+        match self.r.below(9) {
+            0 => lines.swap(i, j),
+            1 => lines.swap(i, (i + 1) % n as usize),
+            2 => lines.insert(j, lines[i].clone()),
+            3 => lines.insert(i, lines[i].clone()),
+            4 => {
+                lines.remove(i);
+            }
+            5 => lines[i] = odd,
+            6 => lines.insert(i, odd),
+            7 => {
+                let word = self.r.of(&[".i", ".p"]);
+                let right = self.r.of(&[1, 2, 3, 4, 5, n.saturating_sub(4)]);
+                let count = self.count(right);
+                let line = self.line([word, &count]);
+                lines.insert(i, line);
+            }
+            _ => lines[i].extend(odd),
+        }
+    }
+
+    /// Another byte, a byte more, a byte fewer, or an end.
+    fn damage(&mut self, text: &mut Vec<u8>) {
+        let i = self.r.below(text.len() as u64 + 1) as usize;
+        let sign = self.r.of(SIGNS);
+        match self.r.below(8) {
+            0 => text.truncate(i),
+            1 => text.insert(i, sign),
+            2 => text.splice(..0, [sign]).for_each(drop),
+            3 => text.push(sign),
+            _ if i == text.len() => text.insert(i, self.r.next() as u8),
+            4 => text[i] ^= 1 << self.r.below(8),
+            5 => text[i] = self.r.next() as u8,
+            6 => {
+                text.remove(i);
+            }
+            _ => text[i] = sign,
+        }
+    }
+
+    /// A PLA text: one that can be read, one with numbers, lines or bytes that are not as they should be, or any bytes.
+    fn text(&mut self) -> Vec<u8> {
+        let kind = self.r.below(24);
+        let most = if kind == 0 && self.r.one_in(8) { 5000 } else { 300 };
+        let mut lines = self.drawing(kind % 2 == 0, most);
+        if kind % 3 == 1 {
+            for _ in 0..=self.r.below(3) {
+                self.disorder(&mut lines);
+            }
+        }
+        let mut text = lines.join(&b'\n');
+        if !self.r.one_in(4) {
+            text.push(b'\n');
+        }
+        match kind {
+            2 | 5 | 8 | 11 | 14 => (0..=self.r.below(3)).for_each(|_| self.damage(&mut text)),
+            17 => text = text.into_iter().flat_map(|b| if b == b'\n' { vec![b'\r', b'\n'] } else { vec![b] }).collect(),
+            20 => {
+                let n = self.r.below(80);
+                text = (0..n).map(|_| self.r.of(SIGNS)).collect();
+            }
+            23 => {
+                let n = self.r.of(&[0, 0, 1, 2, 100, 3000]);
+                text = self.r.bytes(n);
+            }
+            _ => {}
+        }
+        text.truncate(60_000);
+        text
+    }
+
+    fn read_pla(&mut self) -> Call {
+        let text = self.text();
+        let written = read_pla(&text).map(|s| s.form());
+        let needed = written.as_ref().map_or(20, Vec::len);
+        let room = self.room(needed);
+        self.writing(13, [0, 0], Some(text), written, needed, room)
+    }
+
+    fn write_pla(&mut self) -> Call {
+        let form = self.form();
+        let written = Sheet::read(&form).map(|s| pla(s.marks, &self.lists.first_shortest(&s)));
+        let needed = written.as_ref().map_or(60, Vec::len);
+        let room = self.room(needed);
+        self.writing(14, [0, 0], Some(form), written, needed, room)
+    }
+
+    /// The PLA text of a class, and that text read, into areas of just the size.
+    fn pla_of(&mut self, sheet: &Sheet) -> [Call; 2] {
+        let text = pla(sheet.marks, &self.lists.first_shortest(sheet));
+        let (room, back) = (self.r.bytes(text.len() as u64), self.r.bytes(5 + sheet.class_size()));
+        let write = self.writing(14, [0, 0], Some(sheet.form()), Ok(text.clone()), text.len(), room);
+        let read = self.writing(13, [0, 0], Some(text), Ok(sheet.form()), back.len(), back);
+        [write, read]
+    }
+
     fn call(&mut self) -> Call {
-        match self.r.below(26) {
+        match self.r.below(36) {
+            26..=32 => self.read_pla(),
+            33..=35 => self.write_pla(),
             0 => self.open(),
             1..=3 => self.change(1),
             4..=6 => self.change(2),
@@ -429,15 +621,20 @@ fn main() {
         let sheet = tests.sheet();
         tests.pool.push(sheet);
     }
-    let mut counts = [[0u64; 11]; 13];
+    let mut counts = [[0u64; 11]; NAMES.len()];
     let mut made = 0;
-    let (mut classes, lists) = (every_class(), every_class().count() as u64);
-    while made < lists + calls {
-        let next = |_| match classes.next() {
-            Some(sheet) => tests.list_of(&sheet),
-            None => tests.call(),
-        };
-        let batch: Vec<Call> = (0..(lists + calls - made).min(512)).map(next).collect();
+    let (mut sheets, classes) = (every_class(), every_class().count() as u64);
+    while made < 3 * classes + calls {
+        let mut batch: Vec<Call> = Vec::new();
+        while batch.len() < 512 && batch.iter().map(Call::size).sum::<usize>() < MOST_BYTES && made + (batch.len() as u64) < 3 * classes + calls {
+            match sheets.next() {
+                Some(sheet) => {
+                    batch.push(tests.list_of(&sheet));
+                    batch.extend(tests.pla_of(&sheet));
+                }
+                None => batch.push(tests.call()),
+            }
+        }
         let Ok(replies) = exchange(&mut child, &batch) else {
             stop(&format!("the program ended behind call {made}, {:?}, by\n{:x?}", child.wait(), ending(&words[3..], &batch)));
         };
@@ -462,5 +659,5 @@ fn main() {
         let given: Vec<String> = (0..11).filter(|&a| answers[a] > 0).map(|a| format!("{a}: {}", answers[a])).collect();
         println!("vault_{name:<11}{:>7} calls, by answer {}", answers.iter().sum::<u64>(), given.join(", "));
     }
-    println!("differential: {lists} lists, of every class of up to four marks, and {calls} random calls compared, no difference (seed {seed})");
+    println!("differential: lists and PLA texts of all {classes} classes of up to four marks, and {calls} random calls compared, no difference (seed {seed})");
 }

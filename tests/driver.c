@@ -107,6 +107,8 @@ static uint8_t *call(uint8_t *to, struct area *s, struct area *t)
     case 10: r = vault_held(s->p, s->n, x); break;
     case 11: r = vault_before(s->p, s->n, t->p, t->n); break;
     case 12: r = vault_read_time(s->p, s->n); break;
+    case 13: r = vault_read_pla(s->p, s->n, t->p, t->n); break;
+    case 14: r = vault_write_pla(s->p, s->n, t->p, t->n); break;
     default: fail("no such entry");
     }
     to = put(put(put(to, r.answer, 8), r.place, 8), r.value, 8);

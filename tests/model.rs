@@ -271,3 +271,104 @@ impl Times {
 pub fn is_before(a: &[u8], b: &[u8]) -> bool {
     (a.len(), a) < (b.len(), b)
 }
+
+/// A PLA text, by its lines: each with its offset and its words, up to a line that begins with `.e`.
+struct Pla<'a> {
+    size: usize,
+    lines: Vec<(usize, Vec<&'a [u8]>)>,
+}
+
+/// Digits, without a needless zero in front. What number they are is told by comparing texts, so that they may be as many as one likes.
+fn is_number(word: &[u8]) -> bool {
+    !word.is_empty() && word.iter().all(u8::is_ascii_digit) && (word == b"0" || word[0] != b'0')
+}
+
+impl<'a> Pla<'a> {
+    fn new(text: &'a [u8]) -> Pla<'a> {
+        let mut at = 0;
+        let lines = text.split(|&b| b == b'\n').map(|line| {
+            let from = at;
+            at += line.len() + 1;
+            let said = line.split(|&b| b == b'#').next().unwrap();
+            (from, said.split(|&b| b == b' ' || b == b'\t').filter(|w| !w.is_empty()).collect::<Vec<_>>())
+        });
+        let lines = lines.take_while(|(_, words)| words.first() != Some(&&b".e"[..])).collect();
+        Pla { size: text.len(), lines }
+    }
+
+    /// Where the first line with a keyword is.
+    fn first(&self, keyword: &str) -> Option<usize> {
+        self.lines.iter().position(|(_, words)| words.first() == Some(&keyword.as_bytes()))
+    }
+
+    /// The second word of a line.
+    fn argument(&self, line: usize) -> &'a [u8] {
+        self.lines[line].1.get(1).copied().unwrap_or_default()
+    }
+
+    /// Whether a line may stand where it does, given where the first `.i`, `.o` and `.p` are: what stands before is taken to be readable.
+    fn is_readable(&self, line: usize, [i, o, p]: [Option<usize>; 3]) -> bool {
+        let words = &self.lines[line].1;
+        let behind = |first: Option<usize>| first.is_some_and(|f| f < line);
+        match words[..] {
+            [] => true,
+            [b".i", n] => i == Some(line) && is_number(n),
+            [b".o", n] => o == Some(line) && behind(i) && n == b"1",
+            [b".p", n] => p == Some(line) && is_number(n),
+            [cube, n] => {
+                let width = self.argument(i.unwrap_or(line));
+                behind(o) && n == b"1" && cube.iter().all(|b| b"01-".contains(b)) && cube.len().to_string().as_bytes() == width
+            }
+            _ => false,
+        }
+    }
+
+    fn read(&self) -> Result<Sheet, Reply> {
+        let firsts = [".i", ".o", ".p"].map(|k| self.first(k));
+        let [i, o, p] = firsts;
+        let fault = (0..self.lines.len()).find(|&line| !self.is_readable(line, firsts));
+        let marks = i.map(|i| self.argument(i)).and_then(|n| [b"1", b"2", b"3", b"4", b"5"].iter().position(|m| *m == n));
+        if let (Some(i), None) = (i, marks) {
+            if fault.map_or(true, |f| i < f) {
+                return Err(refused(1));
+            }
+        }
+        if let Some(line) = fault {
+            return Err(unreadable(self.lines[line].0));
+        }
+        let (Some(marks), Some(o)) = (marks, o) else {
+            return Err(unreadable(self.size));
+        };
+        let cubes: Vec<&[u8]> = self.lines[o + 1..].iter().filter_map(|(_, w)| w.first().copied()).filter(|w| w[0] != b'.').collect();
+        match p {
+            Some(p) if self.argument(p) != cubes.len().to_string().as_bytes() => Err(unreadable(self.lines[p].0)),
+            _ => Ok(Self::drawn(marks + 1, &cubes)),
+        }
+    }
+
+    /// The sheet of all combinations that, written in binary, differ from some cube only where that is free.
+    fn drawn(marks: usize, cubes: &[&[u8]]) -> Sheet {
+        let cubes: HashSet<&[u8]> = cubes.iter().copied().collect();
+        let mut sheet = Sheet::open(marks as u64).unwrap();
+        for (c, standing) in sheet.class.iter_mut().enumerate() {
+            let own = format!("{c:0marks$b}").into_bytes();
+            *standing = cubes.iter().any(|cube| cube.iter().zip(&own).all(|(&x, &y)| x == b'-' || x == y));
+        }
+        sheet
+    }
+}
+
+pub fn read_pla(text: &[u8]) -> Result<Sheet, Reply> {
+    Pla::new(text).read()
+}
+
+/// A line of a list as a cube.
+pub fn cube(marks: u32, b: u64) -> String {
+    (0..marks).rev().map(|i| ["0", "1", "-"][(b / 3u64.pow(i) % 3) as usize]).collect()
+}
+
+/// The text of a list.
+pub fn pla(marks: u32, list: &[u8]) -> Vec<u8> {
+    let cubes: String = list.iter().map(|&b| format!("{} 1\n", cube(marks, u64::from(b)))).collect();
+    format!(".i {marks}\n.o 1\n.p {}\n{cubes}.e\n", list.len()).into_bytes()
+}

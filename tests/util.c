@@ -157,6 +157,9 @@ static void tells(const struct vault_sheet *s, const uint8_t *bytes, size_t size
     uint8_t list[VAULT_LIST_SIZE] = {0}, want[VAULT_LIST_SIZE] = {0};
     int lists = same(vault_sheet_list(s, list), vault_list(bytes, size, want, sizeof want));
     check(lists && memcmp(list, want, sizeof want) == 0, "the list", line);
+    char text[VAULT_PLA_SIZE] = {0}, as_text[VAULT_PLA_SIZE] = {0};
+    int texts = same(vault_sheet_write_pla(s, text), vault_write_pla(bytes, size, as_text, sizeof as_text));
+    check(texts && memcmp(text, as_text, sizeof text) == 0, "the PLA text", line);
     check(same(vault_sheet_class_size(s), vault_class_size(bytes, size)), "the class size", line);
     check(same(vault_sheet_total(s), vault_total(bytes, size)), "the total", line);
     check(same(vault_sheet_outside(s, line), vault_outside(bytes, size, line)), "what is outside", line);
@@ -191,6 +194,27 @@ static void changes(uint64_t marks)
     check(vault_sheet_read(&copy, bytes, size).answer == VAULT_DONE && holds(&copy, bytes, size), "a sheet that is read", marks);
 }
 
+/* A sheet that begins with a PLA text is the one that is read to an area; its own text gives its class, and nothing held. */
+static void drawn(void)
+{
+    static const char text[] = ".i 3\n.o 1\n1-- 1\n-11 1\n", bad[] = ".i 3\n.o 1\n1-- 1\n11 1\n";
+    struct vault_sheet s, back;
+    uint8_t bytes[VAULT_FORM_SIZE];
+    char own[VAULT_PLA_SIZE];
+    struct vault_reply r = vault_read_pla(text, sizeof text - 1, bytes, sizeof bytes);
+    size_t size = (size_t)r.value;
+    memset(&s, 0x55, sizeof s);
+    check(same(vault_sheet_read_pla(&s, text, sizeof text - 1), r) && holds(&s, bytes, size), "a sheet that was drawn", 3);
+    check(vault_sheet_marks(&s) == 3 && vault_sheet_class_size(&s).value == 5 && vault_sheet_total(&s).value == 0, "its class", 3);
+    vault_sheet_receive(&s, 7, 100);
+    r = vault_sheet_write_pla(&s, own);
+    memset(&back, 0x55, sizeof back);
+    check(vault_sheet_read_pla(&back, own, (size_t)r.value).answer == VAULT_DONE && holds(&back, bytes, size), "drawn again", 3);
+    r = vault_sheet_read_pla(&s, bad, sizeof bad - 1);
+    check(r.answer == VAULT_UNREADABLE && r.place == 16, "a text that is refused", 16);
+    check(vault_sheet_size(&s) == 0 && vault_sheet_write_pla(&s, own).answer == VAULT_UNREADABLE, "leaves no sheet", 16);
+}
+
 static void no_sheets(void)
 {
     static const uint8_t bad[] = {1, 3, 0};
@@ -213,6 +237,7 @@ int main(void)
     times();
     for (uint64_t marks = 1; marks <= VAULT_MOST_MARKS; marks++)
         changes(marks);
+    drawn();
     no_sheets();
     printf("util: %d checks, %d failed\n", checks, faults);
     return faults != 0;

@@ -4,11 +4,11 @@ use mathlib.Core.Path.{_≡_, refl, sym, subst}
 use mathlib.Core.List.{List, [], _∷_, _++_}
 use native.Mathlib.Omega.{arith}
 use lib.Dec.{ltb}
-use lib.ListN.{length, take, drop}
+use lib.ListN.{length, getD, take, drop}
 use borrow.Author.Tests.{ltb-true, ltb-false}
 use Rattle.times.specs.declared.Time.{Time}
 use Rattle.times.specs.declared.Time.the-variants.{Value}
-use Rattle.times.specs.Texts.{Numeral, minutes, Readable}
+use Rattle.times.specs.Texts.{Digit, Digits, Numeral, minutes, Readable}
 use Rattle.times.specs.Places.{ReadsAs, value}
 use Rattle.times.proofs.Fronts.{numeral-digit, numeral-more, readable}
 use Rattle.times.proofs.Settled.{read-settled}
@@ -36,6 +36,20 @@ numeral-below (suc k) n l =
 
 pub decimal-numeral : (n : ℕ) → Numeral (decimal n) n
 decimal-numeral n = numeral-below n n (omega arith)
+
+-- each of its bytes is a digit, and the first of several is not `0`
+
+digits-at : (l : List ℕ) (i : ℕ) → Digits l → i < length l → Digit (getD l i 0)
+unfolding Digits
+digits-at [] i d h = absurd (omega arith)
+digits-at (c ∷ l) zero d h = d .0
+digits-at (c ∷ l) (suc i) d h = digits-at l i (d .1) (omega arith)
+
+pub decimal-digit : (n i : ℕ) → i < length (decimal n) → Digit (getD (decimal n) i 0)
+decimal-digit n i h = digits-at (decimal n) i (decimal-numeral n .digits) h
+
+pub decimal-plain : (n : ℕ) (rest : List ℕ) → decimal n ≡ 48 ∷ rest → rest ≡ []
+decimal-plain n rest e = decimal-numeral n .plain rest e
 
 pub clock-readable : (n : ℕ) → n ≤ 35999 → Readable (clock n) n
 unfolding clock

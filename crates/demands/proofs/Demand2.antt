@@ -1,18 +1,18 @@
 -- What the contract of `list` says of the list it gives, and what follows of every first shortest list.
 use Prim.Native.Nat.{ℕ, suc, _-_, _^_, _≤_}
 use mathlib.Core.Path.{_≡_, refl, sym, _∙_, ap, subst, transport}
-use mathlib.Core.Bool.{Bool, true, _&&_}
+use mathlib.Core.Bool.{Bool, true}
 use mathlib.Core.List.{List}
 use native.Mathlib.Omega.{arith}
-use lib.Dec.{eqb, leb}
+use lib.Dec.{leb}
 use lib.ListN.{length}
-use borrow.Author.Tests.{leb-true, le-ltb}
-use Rattle.ground.proofs.Cases.{clash, below-or, and-left}
+use borrow.Author.Tests.{leb-true}
+use Rattle.ground.proofs.Cases.{and-left}
 use Rattle.boxes.specs.Sums.{sumOver}
-use Rattle.tables.specs.Tables.{entry, own}
+use Rattle.tables.specs.Tables.{entry}
 use Rattle.lists.specs.Lists.{Small, FirstShortest}
 use Rattle.lists.proofs.Class.{rising-same}
-use Rattle.lists.proofs.Exist.{exists, at-most-half}
+use Rattle.lists.proofs.Exist.{at-most-half}
 use Rattle.lists.proofs.First.{unique}
 use Rattle.lists.proofs.Pottosin.{fits-independent, first-smallest}
 use Rattle.sheet.specs.Limits.{mostMarks, marksOk}
@@ -20,6 +20,7 @@ use Rattle.sheet.specs.Sound.{ClassReady, recordOf}
 use Rattle.sheet.specs.declared.Sheet.{Sheet}
 use Rattle.sheet.specs.declared.Value.{Value}
 use Rattle.listing.specs.Listing.{totalOf, Searched, Listed, Totalled}
+use Rattle.listing.proofs.Finds.{class-small, list-finds}
 use Rattle.listing.proofs.Lines.{kept-total}
 use Rattle.vault.specs.Entries.{Lends}
 use Rattle.vault.specs.declared.Reply.{Reply}
@@ -41,22 +42,12 @@ lines m class l some small f =
     }
 
 module _ (s : Sheet) where
-  -- no class that counts tell has a number that is no combination
-  pub small : Small (s .marks) (recordOf s .class)
-  small c e =
-      below-or c (2 ^ s .marks) (λ l. l)
-      (λ l. clash e (ap (λ (t : Bool). t && eqb (own (s .marks) (s .outside) c) 0) (le-ltb c (2 ^ s .marks) l)))
-
   pub class-lines : {l : List ℕ} → ClassReady mostMarks s → FirstShortest (s .marks) (recordOf s .class) (recordOf s .class) l
       → Lines (s .marks) (recordOf s .class) l
-  class-lines {l} w f = lines (s .marks) (recordOf s .class) l (some-marks mostMarks (s .marks) (w .marks)) small f
+  class-lines {l} w f = lines (s .marks) (recordOf s .class) l (some-marks mostMarks (s .marks) (w .marks)) (class-small s) f
 
   given : {area later : List ℕ} {v : Value} → Listed mostMarks s area v later → ClassReady mostMarks s → 2 ^ s .marks ≤ length area → v .number ≡ 0
-  given (Listed.spoiled n) r l = absurd (n r)
-  given (Listed.short w h) r l = absurd (omega arith)
-  given (Listed.searched w h (Searched.none n)) r l =
-      let x = exists (s .marks) (recordOf s .class) (recordOf s .class) small (λ c e. e) in absurd (n (x .0) (x .1))
-  given (Listed.searched w h (Searched.given f)) r l = refl
+  given w r l = ap (λ (x : Value). x .number) (list-finds w r l .answer)
 
   total : {v : Value} → Totalled mostMarks s v → v .number ≡ 0 → v .value ≡ totalOf (recordOf s)
   total (Totalled.spoiled n) e = absurd (omega arith)

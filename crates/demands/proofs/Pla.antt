@@ -19,6 +19,7 @@ use Rattle.sheet.specs.Sound.{ClassReady, recordOf}
 use Rattle.sheet.specs.declared.Sheet.{Sheet}
 use Rattle.sheet.specs.declared.Value.{Value}
 use Rattle.listing.specs.Listing.{Searched, Listed}
+use Rattle.listing.proofs.Finds.{class-small}
 use Rattle.stored.specs.Fields.{Outcome, good, refused}
 use Rattle.stored.specs.Answers.{readOf, Writes}
 use Rattle.stored.specs.declared.Read.{Read}
@@ -38,7 +39,7 @@ use Rattle.demands.specs.Demand1.{Refuses}
 use Rattle.demands.specs.Demand2.{Lines}
 use Rattle.demands.specs.Pla.{DrawnFrom, WrittenAs, DrawnIn, WrittenIn, Pla}
 use Rattle.demands.proofs.Demand1.{demand-1}
-use Rattle.demands.proofs.Demand2.{small, class-lines}
+use Rattle.demands.proofs.Demand2.{class-lines}
 use Rattle.demands.proofs.Demand3.{kept-afresh, good-drawn}
 
 -- what is read
@@ -69,7 +70,7 @@ module _ {t : List ℕ} where
       record {
         marks = drawn-marks p;
         class = λ c. record {
-          yes = λ e. drawn-class p c .yes (sym (told .class c (small s c e)) ∙ e);
+          yes = λ e. drawn-class p c .yes (sym (told .class c (class-small s c e)) ∙ e);
           sure = λ d. let e = drawn-class p c .sure d in told .class c (drawn-combination p c e) ∙ e;
         };
         nothing-held = λ b. kept-afresh r (good-drawn p) held-seconds b ∙ none-held (r .marks) b (r .times) (drawn-times p);

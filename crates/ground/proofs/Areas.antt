@@ -81,7 +81,12 @@ wrote-text {out} {o₁} {at} {r₁} e w = subst (λ (t : List ℕ). Wrote out at
 pub wrote-length : {out o₁ : List ℕ} {at r₁ : ℕ} {a : List ℕ} → Wrote out at a r₁ o₁ → at + length a ≤ length out → length o₁ ≡ length out
 wrote-length {out} {o₁} {at} {r₁} {a} p h = ap length (p .area) ∙ length-laid out at a h
 
--- a text laid at 0 is what stands up to the next place
+-- a text laid at the front
+pub laid-front : (out text : List ℕ) → laid out 0 text ≡ text ++ drop (length text) out
+unfolding laid
+laid-front out text = let e : 0 + length text ≡ length text = omega arith in ap (λ (n : ℕ). text ++ drop n out) e
+
+-- it is what stands up to the next place
 pub wrote-front : {out o₁ : List ℕ} {r₁ : ℕ} {a : List ℕ} → Wrote out 0 a r₁ o₁ → (take r₁ o₁ ≡ a) × (r₁ ≤ length o₁)
 unfolding laid
 wrote-front {out} {o₁} {r₁} {a} p = (

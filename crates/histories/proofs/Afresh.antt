@@ -1,6 +1,6 @@
 -- What is read off a sheet worked out afresh is the record's: each kept number, list, total and class size; and 7 never comes.
 use Prim.Native.Nat.{ℕ, _^_, _<_, _≤_}
-use mathlib.Core.Path.{_≡_, refl, sym, _∙_, ap, ap₂, subst, fun-ext}
+use mathlib.Core.Path.{_≡_, sym, _∙_, ap, ap₂, subst, fun-ext}
 use mathlib.Core.Bool.{Bool, _&&_}
 use mathlib.Core.List.{List}
 use native.Mathlib.Omega.{arith}
@@ -14,7 +14,6 @@ use Rattle.ground.proofs.Cases.{if, below-or}
 use Rattle.boxes.proofs.Sums.{sum-ext}
 use Rattle.tables.specs.Tables.{entry, own}
 use Rattle.tables.proofs.Entries.{afresh-entry, afresh-own}
-use Rattle.lists.proofs.Exist.{exists}
 use Rattle.sheet.specs.Limits.{mostMarks, entries}
 use Rattle.sheet.specs.Record.{Record, outOf, sheetOf}
 use Rattle.sheet.specs.Sound.{ClassReady, Ready, recordOf, sizeOf}
@@ -24,6 +23,7 @@ use Rattle.sheet.proofs.Kept.{class-sound, class-told, times-sound}
 use Rattle.sheet.proofs.Keeps.{class-of-ready}
 use Rattle.sheet.proofs.Tests.{boxes-fit}
 use Rattle.listing.specs.Listing.{totalOf, Searched, Listed, Totalled}
+use Rattle.listing.proofs.Finds.{search-finds}
 use Rattle.histories.specs.Histories.{Good, Given}
 
 module _ (r : Record) (good : Good r) where
@@ -76,8 +76,9 @@ module _ (r : Record) (good : Good r) where
   total-afresh v (Totalled.told w) = ap (λ (n : ℕ). record { number = 0; value = n }) total-same
 
   given-afresh : (area : List ℕ) (v : Value) (later : List ℕ) → Searched (r .marks) (r .class) area v later → Given r area v later
-  given-afresh area v later (Searched.none no-list) = let l = exists (r .marks) (r .class) (r .class) (good .class) (λ c e. e) in absurd (no-list (l .0) (l .1))
-  given-afresh area v later (Searched.given {l} right) = record { list = l; right = right; value = refl; stands = refl }
+  given-afresh area v later found =
+      let f = search-finds (good .class) found in
+      record { list = f .list; right = f .right; value = f .answer; stands = f .stands }
 
   pub list-afresh : (area : List ℕ) (v : Value) (later : List ℕ) → 2 ^ r .marks ≤ length area → Listed mostMarks (sheetOf entries r) area v later → Given r area v later
   list-afresh area v later l (Listed.spoiled no-ready) = absurd (no-ready class-ready)

@@ -1,5 +1,5 @@
 -- The finished list, at the front of the search's own area, goes to the front of the lent one.
-use Prim.Native.Nat.{ℕ, _+_, _≤_}
+use Prim.Native.Nat.{ℕ, _≤_}
 use mathlib.Core.Path.{_≡_, sym, _∙_, ap, subst}
 use mathlib.Core.Bool.{Bool}
 use mathlib.Core.List.{List, _++_}
@@ -7,17 +7,13 @@ use native.Mathlib.Omega.{arith}
 use lib.ListN.{length, take, drop, length-take, length-append}
 use lib.Seq.{take-append-le}
 use Rattle.ground.specs.Areas.{laid, Wrote}
+use Rattle.ground.proofs.Areas.{laid-front}
 use Rattle.lists.specs.Lists.{Fits, FirstShortest}
 use Rattle.sets.specs.Sets.{has}
 use Rattle.seek.specs.Answer.{Sought}
 use Rattle.seek.specs.declared.Found.{Found}
 use Rattle.seek.specs.declared.Found.the-variants.{Boxes, Nothing}
 use Rattle.listing.specs.Listing.{Searched, none, given}
-
--- a text laid at the front
-laid-front : (out text : List ℕ) → laid out 0 text ≡ text ++ drop (length text) out
-unfolding laid
-laid-front out text = let e : 0 + length text ≡ length text = omega arith in ap (λ (n : ℕ). text ++ drop n out) e
 
 -- its place in the search's own area, ys of it lent and zs not
 

@@ -24,7 +24,7 @@ use Rattle.pla.proofs.Sayings.{says-one}
 
 -- one box more covers its own combinations, and no more
 
-covered-last : (m : ℕ) (l : List ℕ) (b c : ℕ) → covered m (l ++ b ∷ []) c ≡ (covered m l c || contains m b c)
+pub covered-last : (m : ℕ) (l : List ℕ) (b c : ℕ) → covered m (l ++ b ∷ []) c ≡ (covered m l c || contains m b c)
 unfolding covered
 covered-last m [] b c = if (contains m b c) (λ e. rw e) (λ e. rw e)
 covered-last m (a ∷ l) b c = if (contains m a c) (λ e. rw e) (λ e. rw (e, covered-last m l b c))

@@ -4,3 +4,4 @@ pub mod Drawings
 pub mod Sound
 pub mod Settled
 pub mod Agrees
+pub mod Back

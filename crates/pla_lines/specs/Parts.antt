@@ -7,7 +7,7 @@ use lib.ListN.{length, getD, take, drop}
 use Rattle.print.specs.Texts.{decimal, sign, pattern}
 use Rattle.pla.specs.Texts.{isGap}
 use Rattle.pla.specs.Sayings.{Saying, blank, inputs, output, count, cube, end, Says}
-use Rattle.pla_lines.specs.Lines.{firstLine, wordsIn, isStop}
+use Rattle.pla_lines.specs.Lines.{wordsIn, isStop}
 use Rattle.pla_lines.specs.declared.Heard.{Heard}
 use Rattle.pla_lines.specs.declared.Heard.the-variants.{Blank, Inputs, Output, Count, Cube, End, Unreadable}
 use Rattle.pla_lines.specs.declared.words.Word.{Word}

@@ -2,6 +2,7 @@
 ghost use mathlib.Core.Path.{_≡_};
 ghost use mathlib.Core.List.{[], _∷_};
 ghost use Prim.Native.Nat.{_+_, _-_, _*_, _≤_};
+ghost use Rattle.ground.specs.Texts.{ascii};
 ghost use Rattle.sheet.specs.Limits.{mostMarks};
 ghost use Rattle.pla_lines.specs.Parts.{capped, Hears, Numbered, Signed, Boxed};
 use crate::Heard;
@@ -94,9 +95,9 @@ fn read_cube(word: &[u8], m: usize) -> Cube
     Cube::Of(b)
 }
 
-// A keyword and its number, or `.o 1`, or a cube and `1`.
+// A keyword and its number, or `.o 1`, or a cube and `1`; a line with `.e` is not brought here.
 pub fn pair(first: &[u8], second: &[u8], m: usize) -> Heard
-    requires { ⌜ m ≤ mostMarks ⌝ }
+    requires { ⌜ (m ≤ mostMarks) × (now first ≡ ascii ".e" → ⊥) ⌝ }
     ensures { λ r. ⌜ Hears m (now (first .entry) ∷ now (second .entry) ∷ []) r ⌝ }
 {
     if ground::same(first, b".i") {

@@ -1,22 +1,24 @@
 // What the lines of a PLA text have said so far, and what one more line makes of it.
 ghost use mathlib.Core.Path.{_≡_};
-ghost use Prim.Native.Nat.{_+_, _≤_, _<_, _^_};
-ghost use Rattle.sheet.specs.Limits.{mostMarks, entries};
-ghost use Rattle.stored.specs.Answers.{readOf};
-ghost use Rattle.pla.specs.Reading.{nothingSaid, comesTo, Said as SaidSo};
-ghost use Rattle.pla_reading.specs.Parts.{Keeps, Judged};
+ghost use mathlib.Core.Bool.{not, _&&_};
+ghost use Prim.Native.Nat.{_+_, _<_, _≤_, _^_};
+ghost use lib.Dec.{eqb};
+ghost use Rattle.sheet.specs.Limits.{mostMarks};
+ghost use Rattle.pla.specs.Reading.{nothingSaid};
+ghost use Rattle.pla.specs.Sayings.{inputs, output, count, cube};
+ghost use Rattle.pla_reading.specs.Parts.{Tabled, Keeps, Hearable, Makes, MakesOf, Judged, Comes};
 use pla_lines::Heard;
 use sheet::Sheet;
 use stored::Read;
 
-// The inputs, 0 before `.i`; whether `.o 1` has come; the `.p` line's number and offset, where one has come; how many cubes, and their union as a
-// set of combinations.
+// The inputs, 0 before `.i`; whether `.o 1` has come; whether a `.p` line has, its number and its offset; how many cubes, and the set of their
+// combinations.
 pub struct Said {
     pub inputs: usize,
     pub output: bool,
     pub counted: bool,
     pub count: u64,
-    pub counted_at: usize,
+    pub place: usize,
     pub cubes: u64,
     pub class: u32,
 }
@@ -37,13 +39,16 @@ impl Said {
             output: false,
             counted: false,
             count: 0,
-            counted_at: 0,
+            place: 0,
             cubes: 0,
             class: 0,
         }
     }
 
-    fn with_inputs(mut self, at: usize, n: u64) -> Next {
+    // `.i`, at an offset.
+    fn with_inputs(mut self, at: usize, n: u64) -> Next
+        ensures { λ r. ⌜ MakesOf self at inputs n r ⌝ }
+    {
         if self.inputs != 0 {
             return Next::Refused(10, at);
         }
@@ -54,7 +59,10 @@ impl Said {
         Next::On(self)
     }
 
-    fn with_output(mut self, at: usize) -> Next {
+    // `.o 1`
+    fn with_output(mut self, at: usize) -> Next
+        ensures { λ r. ⌜ Makes self at output r ⌝ }
+    {
         if self.inputs == 0 {
             return Next::Refused(10, at);
         }
@@ -65,51 +73,71 @@ impl Said {
         Next::On(self)
     }
 
-    fn with_count(mut self, at: usize, n: u64) -> Next {
+    // `.p`
+    fn with_count(mut self, at: usize, n: u64) -> Next
+        ensures { λ r. ⌜ MakesOf self at count n r ⌝ }
+    {
         if self.counted {
             return Next::Refused(10, at);
         }
         self.counted = true;
         self.count = n;
-        self.counted_at = at;
+        self.place = at;
         Next::On(self)
     }
 
-    fn with_cube(mut self, at: usize, b: usize) -> Next {
+    // A cube; the table has the set of each box.
+    fn with_cube(mut self, at: usize, b: usize, sets: &[u32; 243]) -> Next
+        requires { ⌜ (self .inputs ≤ mostMarks) × (b < 3 ^ self .inputs) ⌝ }
+        requires { ⌜ self .cubes + 1 < 2 ^ 64 ⌝ }
+        requires { ⌜ Tabled (now sets) ⌝ }
+        ensures { λ r. ⌜ Makes self at (cube b) r ⌝ }
+    {
         if !self.output {
             return Next::Refused(10, at);
         }
         self.cubes = self.cubes + 1;
-        self.class = self.class | sets::set_of(self.inputs, b);
+        self.class = self.class | sets[b];
         Next::On(self)
     }
 
     // The line at an offset.
-    pub fn judged(self, at: usize, heard: Heard) -> Next
-        requires { ⌜ self .cubes + 1 < 2 ^ 64 ⌝ }
-        ensures { λ r. ⌜ Judged at self heard r ⌝ }
+    pub fn judged(self, at: usize, heard: Heard, sets: &[u32; 243]) -> Next
+        requires { ⌜ Hearable self heard ⌝ }
+        requires { ⌜ Tabled (now sets) ⌝ }
+        ensures { λ r. ⌜ Judged self at heard r ⌝ }
     {
         match heard {
             Heard::Blank => Next::On(self),
             Heard::Inputs(n) => self.with_inputs(at, n),
             Heard::Output => self.with_output(at),
             Heard::Count(n) => self.with_count(at, n),
-            Heard::Cube(b) => self.with_cube(at, b),
+            Heard::Cube(b) => self.with_cube(at, b, sets),
             Heard::End => Next::End,
             Heard::Unreadable => Next::Refused(10, at),
         }
     }
 
-    // What it comes to at the end of an input of so many bytes.
-    pub fn comes_to(self, size: usize) -> Read {
+    // Whether a `.p` line has another number than that of the cubes.
+    fn miscounts(self) -> bool
+        ensures { λ r. ⌜ r ≡ (self .counted && not (eqb (self .count) (self .cubes))) ⌝ }
+    {
+        self.counted && self.count != self.cubes
+    }
+
+    // What was said in all, at the end of an input of so many bytes.
+    pub fn comes_to(self, size: usize) -> Read
+        requires { ⌜ (self .inputs ≤ mostMarks) × (self .cubes + 1 < 2 ^ 64) ⌝ }
+        ensures { λ r. ⌜ Comes self size r ⌝ }
+    {
         if self.inputs == 0 {
             return Read::refused(10, size);
         }
         if !self.output {
             return Read::refused(10, size);
         }
-        if self.counted && self.count != self.cubes {
-            return Read::refused(10, self.counted_at);
+        if self.miscounts() {
+            return Read::refused(10, self.place);
         }
         let outs = sets::outs_of(self.class);
         let none = [0u32; 32];

@@ -1,5 +1,4 @@
 // Writing the shortest list of a sheet's class as a PLA text into a lent area.
-ghost use mathlib.Core.Path.{_≡_};
 ghost use Prim.Native.Nat.{_+_, _≤_};
 ghost use lib.ListN.{length};
 ghost use Rattle.ground.specs.Areas.{Wrote};
@@ -42,7 +41,7 @@ fn put_text(out: &mut [u8], m: usize, list: &[u8]) -> usize
 
 // How long the text is of a list of k boxes over m marks.
 fn text_size(m: usize, k: usize) -> usize
-    requires { ⌜ (1 ≤ m) × (m ≤ mostMarks) × (k ≤ 32) ⌝ }
+    requires { ⌜ (m ≤ mostMarks) × (k ≤ 32) ⌝ }
     ensures { λ r. ⌜ TextSize m k r ⌝ }
 {
     let digits = if k < 10 { 1 } else { 2 };

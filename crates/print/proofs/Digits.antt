@@ -1,13 +1,14 @@
 -- The recursion of `decimal`, freed of its bound, and how long the texts are.
-use Prim.Native.Nat.{ℕ, zero, suc, _+_, _/_, _%_, _^_, _≤_, _<_}
+use Prim.Native.Nat.{ℕ, zero, suc, _+_, _*_, _/_, _%_, _^_, _≤_, _<_}
 use mathlib.Core.Path.{_≡_, refl, sym, ap, _∙_}
 use mathlib.Core.List.{List, [], _∷_, _++_}
 use native.Mathlib.Nat.{pow-suc, pow-zero}
 use native.Mathlib.Omega.{arith}
 use lib.Dec.{ltb}
-use lib.ListN.{length, length-append}
+use lib.ListN.{length, getD, length-append, List·getD-append}
+use lib.Seq.{getD-at}
 use borrow.Author.Tests.{ltb-true, ltb-false, lt-ltb, le-ltb}
-use Rattle.ground.proofs.Cases.{if}
+use Rattle.ground.proofs.Cases.{if, below-or}
 use Rattle.print.specs.Texts.{decimalIn, decimal, clock, sign, pattern}
 
 in-small : (k n : ℕ) → n < 10 → decimalIn k n ≡ (48 + n) ∷ []
@@ -40,6 +41,13 @@ decimal-step zero h = absurd (omega arith)
 decimal-step (suc k) h =
     in-step k (suc k) h ∙ ap (λ (x : List ℕ). x ++ (48 + suc k % 10) ∷ []) (same-bound k (suc k / 10) (suc k / 10) (omega arith) (omega arith))
 
+-- a digit behind a number
+pub decimal-grows : (k d : ℕ) → 0 < k → d < 10 → decimal (k * 10 + d) ≡ decimal k ++ (48 + d) ∷ []
+decimal-grows k d h l =
+    let q : (k * 10 + d) / 10 ≡ k = omega arith in
+    let r : (k * 10 + d) % 10 ≡ d = omega arith in
+    decimal-step (k * 10 + d) (omega arith) ∙ rw (q, r)
+
 pub decimal-more : (n : ℕ) → 10 ≤ n → length (decimal n) ≡ length (decimal (n / 10)) + 1
 decimal-more n h = ap length (decimal-step n h) ∙ length-append (decimal (n / 10)) ((48 + n % 10) ∷ [])
 
@@ -59,6 +67,26 @@ pub pattern-length : (m b : ℕ) → length (pattern m b) ≡ m
 unfolding pattern
 pattern-length zero b = refl
 pattern-length (suc m) b = omega (arith, length-append (pattern m (b / 3)) (sign (b % 3) ∷ []), pattern-length m (b / 3))
+
+-- a sign behind a pattern
+pub pattern-grows : (m b d : ℕ) → d < 3 → pattern (suc m) (b * 3 + d) ≡ pattern m b ++ sign d ∷ []
+unfolding pattern
+pattern-grows m b d l =
+    let q : (b * 3 + d) / 3 ≡ b = omega arith in
+    let r : (b * 3 + d) % 3 ≡ d = omega arith in
+    rw (q, r)
+
+-- each character is a sign
+pub pattern-sign : (m b i : ℕ) → i < m → (d : ℕ) × (d < 3) × (getD (pattern m b) i 0 ≡ sign d)
+unfolding pattern
+pattern-sign zero b i h = absurd (omega arith)
+pattern-sign (suc m) b i h =
+    let w = pattern m (b / 3) in
+    let s = sign (b % 3) ∷ [] in
+    let l = pattern-length m (b / 3) in
+    below-or i m
+    (λ k. let r = pattern-sign m (b / 3) i k in (r .0, r .1, List·getD-append w s 0 i (omega arith) ∙ r .2))
+    (λ k. (b % 3, omega arith, getD-at w (sign (b % 3)) [] 0 i (omega arith)))
 
 -- 64 bits: at most 20 digits, and 21 bytes of a time
 pub number-room : (n : ℕ) → n < 2 ^ 64 → length (decimal n) ≤ 20

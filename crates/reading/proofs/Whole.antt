@@ -10,13 +10,13 @@ use borrow.Author.Tests.{lt-ltb}
 use Rattle.ground.proofs.Cases.{mark}
 use Rattle.boxes.specs.Sums.{sum, only}
 use Rattle.boxes.proofs.Boxes.{sumIn-all}
-use Rattle.boxes.proofs.Sums.{sum-zero, sum-ext, sum-le, sum-ones}
+use Rattle.boxes.proofs.Sums.{sum-zero, sum-ext}
 use Rattle.tables.specs.Tables.{entry}
 use Rattle.sheet.specs.Limits.{mostMarks, entries, marksOk}
 use Rattle.sheet.specs.Record.{Record, opened, outOf, sheetFrom}
 use Rattle.sheet.specs.Parts.{Addable}
 use Rattle.sheet.specs.declared.Sheet.{Sheet}
-use Rattle.sheet.proofs.Opening.{combinations-fit, sheet-same}
+use Rattle.sheet.proofs.Opening.{sheet-same}
 use Rattle.stored.specs.declared.Read.{Read}
 use Rattle.stored.specs.declared.Section.the-variants.{Class, Held}
 use Rattle.stored.specs.Sections.{sections}
@@ -61,12 +61,6 @@ module _ (m : ℕ) (outs times : List ℕ) where
     outs-told c l =
         mark (λ x. x ≡ only (not (eqb x 0)) 1) (entry outs c) (omega (arith, ones c l)) refl refl
         ∙ ap (λ (b : Bool). only (not (b && eqb (entry outs c) 0)) 1) (sym (lt-ltb c (2 ^ m) l))
-
-    pub outs-addable : m ≤ mostMarks → 2 ^ m ≤ length outs → Addable m outs
-    outs-addable few long = record {
-      long = long;
-      sum = omega (arith, sumIn-all m (entry outs), combinations-fit m few, sum-le (2 ^ m) (entry outs) (λ c. 1) ones, sum-ones (2 ^ m));
-    }
 
     pub read-answered : {s : Sheet} → s ≡ sheetFrom entries m (entry outs) (entry times)
         → _≡_ {A = Read} (record { number = 0; place = 0; sheet = s }) (readOf entries (good (wholeRecord m outs times)))

@@ -1,14 +1,14 @@
 -- The lists that an opened sheet is worked out from: the same number for each combination.
 use Prim.Native.Nat.{ℕ, _^_, _<_, _≤_}
 use mathlib.Core.Path.{_≡_, ap₂}
-use native.Mathlib.Nat.{pow-le-pow-right, one-le-pow}
+use native.Mathlib.Nat.{pow-le-pow-right}
 use native.Mathlib.Omega.{arith}
-use lib.ListN.{replicate, getD-replicate, length-replicate}
-use Rattle.boxes.specs.Boxes.{allFree}
-use Rattle.boxes.proofs.Boxes.{sumIn-mono, sumIn-count}
+use mathlib.Core.List.{List}
+use lib.ListN.{length, replicate, getD-replicate, length-replicate}
+use Rattle.boxes.proofs.Boxes.{sumIn-all}
+use Rattle.boxes.proofs.Sums.{sum-le, sum-ones}
 use Rattle.tables.specs.Tables.{entry}
 use Rattle.tables.proofs.Entries.{afresh-ext}
-use Rattle.sheet.proofs.Tests.{size-fits}
 use Rattle.sheet.specs.declared.Sheet.{Sheet}
 use Rattle.sheet.specs.Record.{sheetFrom, sheetWith}
 use Rattle.sheet.specs.Parts.{Addable}
@@ -19,15 +19,16 @@ combinations-fit m l = pow-le-pow-right {n = 2} (omega arith) {i = m} {j = 5} l
 pub same-entry : (m x c : ℕ) → m ≤ 5 → c < 2 ^ m → entry (replicate 32 x) c ≡ x
 same-entry m x c l lc = getD-replicate 32 c x 0 (omega (arith, combinations-fit m l))
 
+-- numbers of at most 1 can be added up
+pub ones-addable : (m : ℕ) (own : List ℕ) → m ≤ 5 → 2 ^ m ≤ length own → ((c : ℕ) → c < 2 ^ m → entry own c ≤ 1) → Addable m own
+ones-addable m own few long ones = record {
+  long = long;
+  sum = omega (arith, sumIn-all m (entry own), combinations-fit m few, sum-le (2 ^ m) (entry own) (λ c. 1) ones, sum-ones (2 ^ m));
+}
+
 pub same-addable : (m x : ℕ) → m ≤ 5 → x ≤ 1 → Addable m (replicate 32 x)
 same-addable m x l lx =
-    let b = allFree m in
-    let p : 1 ≤ 3 ^ m = one-le-pow m 3 (omega arith) in
-    let few = size-fits m b l in
-    record {
-      long = omega (arith, combinations-fit m l, length-replicate 32 x);
-      sum = omega (arith, sumIn-count m b (omega arith), sumIn-mono m b (entry (replicate 32 x)) (λ c. 1) (λ c lc. omega (arith, same-entry m x c l lc)));
-    }
+    ones-addable m (replicate 32 x) l (omega (arith, combinations-fit m l, length-replicate 32 x)) (λ c lc. omega (arith, same-entry m x c l lc))
 
 -- a sheet is the same worked out from what is the same of each combination
 pub sheet-same : (n m : ℕ) (f f′ g g′ : ℕ → ℕ) → ((c : ℕ) → c < 2 ^ m → f c ≡ f′ c) → ((c : ℕ) → c < 2 ^ m → g c ≡ g′ c)

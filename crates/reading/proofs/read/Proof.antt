@@ -7,6 +7,7 @@ use native.Mathlib.Omega.{arith}
 use borrow.Author.Tests.{not-true, not-false}
 use borrow.Author.Needs.{needs}
 use Rattle.sheet.proofs.Tests.{marks-most}
+use Rattle.sheet.proofs.Opening.{ones-addable}
 use Rattle.sheet.specs.Limits.{mostMarks, marksOk}
 use Rattle.sheet.specs.Record.{Record, opened}
 use Rattle.stored.specs.Sections.{sections}
@@ -16,7 +17,7 @@ use Rattle.stored.specs.declared.Section.the-variants.{Class, Held}
 use Rattle.reading.specs.Parts.{Leads, Got}
 use Rattle.reading.proofs.Offsets.{then, then-run, early-at, left-over, all-read}
 use Rattle.reading.proofs.Entries.{part-bad, part-good}
-use Rattle.reading.proofs.Whole.{refusal-read, marks-taken, marks-wrong, middle, wholeRecord, before-class, before-held, outs-addable, times-addable, read-answered}
+use Rattle.reading.proofs.Whole.{refusal-read, marks-taken, marks-wrong, middle, wholeRecord, before-class, before-held, times-addable, read-answered}
 use Rattle.reading.proofs.read.Statement.{statement}
 use Rattle.reading.proofs.read.Tie as tie
 
@@ -92,7 +93,7 @@ afresh-requires c κs =
     let times = c .before .before .before .before .before .before .before .read2 .result .own in
     let g = class-got (c .before .before .before .before .before .before .before .before) in (
       few,
-      outs-addable m outs times (g .most) few (g .long),
+      ones-addable m outs few (g .long) (g .most),
       times-addable m outs times (held-got (c .before .before .before .before .before) .long) (bytes-known (c .before .before .before .before .before .before .before .before .before .before .before .before .before .before)) (all-good (c .before .before .before .before)),
     )
 
