@@ -12,7 +12,8 @@ use Rattle.sheet.specs.Promises.{Long}
 use Rattle.sheet.specs.Sound.{Ready, classOf, sizeOf, recordOf}
 use Rattle.sheet.specs.Calls.{ClassSize}
 use Rattle.sheet.proofs.Keeps.{class-of-ready}
-use Rattle.listing.specs.Listing.{totalOf, Totalled}
+use Rattle.listing.specs.Listing.{totalOf, Listed, Totalled}
+use Rattle.pla.specs.Answers.{WritesPla}
 use Rattle.sheet.specs.declared.Sheet.{Sheet}
 use Rattle.sheet.specs.declared.Answer.{Answer}
 use Rattle.sheet.specs.declared.Value.{Value}
@@ -21,6 +22,9 @@ use Rattle.stored.specs.Fields.{Outcome, good, refused}
 use Rattle.stored.specs.declared.Read.{Read}
 use Rattle.stored.proofs.Trips.{read-sound}
 use Rattle.vault.specs.declared.Reply.{Reply}
+use Rattle.vault.specs.declared.Wanted.{Wanted}
+use Rattle.vault.specs.declared.Wanted.the-variants.{Lines, Pla}
+use Rattle.vault.specs.Parts.{LaidAs}
 use Rattle.vault.specs.Entries.{replied, HoldsBy, HoldsNoneBy, Holds, Put, ChangesBy, Tells, Lends, Compared}
 
 -- whichever way of reading
@@ -62,6 +66,12 @@ value-told call {t} k w e = subst (Tells call t) (sym e) (Tells.told k w)
 pub value-lent : (call : Sheet → List ℕ → Value → List ℕ → Type 0) {t area : List ℕ} {s : Sheet} {v : Value} {r : Reply} {later : List ℕ} → Holds t s
     → call s area v later → r ≡ replied (v .number) (v .value) → Lends call t area r later
 value-lent call {t} {area} {later = later} k w e = subst (λ (x : Reply). Lends call t area x later) (sym e) (Lends.lent k w)
+
+pub laid-lines : {what : Wanted} {s : Sheet} {area later : List ℕ} {v : Value} → what ≡ Lines → Listed mostMarks s area v later → LaidAs what s area v later
+laid-lines {s = s} {area} {later} {v} e x = subst (λ (w : Wanted). LaidAs w s area v later) (sym e) x
+
+pub laid-pla : {what : Wanted} {s : Sheet} {area later : List ℕ} {v : Value} → what ≡ Pla → WritesPla mostMarks s area v later → LaidAs what s area v later
+laid-pla {s = s} {area} {later} {v} e x = subst (λ (w : Wanted). LaidAs w s area v later) (sym e) x
 
 -- what a sound sheet answers
 
