@@ -1,20 +1,22 @@
 -- A good text draws a record, and the sheet read is the one worked out from it; what the writer gives is the text of the one first shortest list.
-use Prim.Native.Nat.{ℕ, _-_, _/_, _%_, _^_, _<_}
+use Prim.Native.Nat.{ℕ, _-_, _/_, _%_, _^_, _≤_, _<_}
 use mathlib.Core.Path.{_≡_, refl, sym, _∙_, ap, subst}
+use mathlib.Core.Bool.{false}
 use mathlib.Core.List.{List, []}
 use mathlib.Core.Logic.{_⊎_, ⊎-elim}
 use native.Mathlib.Omega.{arith}
 use lib.Dec.{eqb}
-use lib.ListN.{length, getD}
+use lib.ListN.{length, getD, drop}
+use lib.Seq.{take-at}
 use Rattle.ground.specs.Decides.{Decides}
-use Rattle.ground.proofs.Cases.{clash}
+use Rattle.ground.proofs.Cases.{if, clash, below-or}
 use Rattle.boxes.specs.Boxes.{contains, sumIn}
 use Rattle.boxes.specs.Sums.{only}
 use Rattle.boxes.proofs.Sums.{sum-ext, sum-zero, only-zero}
 use Rattle.print.specs.Texts.{sign}
 use Rattle.print.proofs.Patterns.{pattern-mark}
 use Rattle.sheet.specs.Limits.{mostMarks, entries}
-use Rattle.sheet.specs.Record.{Record, held-seconds, sheetOf}
+use Rattle.sheet.specs.Record.{Record, held-seconds, withTimes, sheetOf}
 use Rattle.sheet.specs.Sound.{ClassReady, recordOf}
 use Rattle.sheet.specs.declared.Sheet.{Sheet}
 use Rattle.sheet.specs.declared.Value.{Value}
@@ -32,15 +34,16 @@ use Rattle.pla.specs.Answers.{ReadsPla, WritesPla}
 use Rattle.pla.proofs.Runs.{refusals, says-one-outcome}
 use Rattle.pla.proofs.Drawings.{drawn-marks, drawn-times, drawn-class, drawn-combination}
 use Rattle.pla.proofs.Settled.{reads-pla-some, reads-pla-settled}
+use Rattle.pla.proofs.Back.{pla-back}
 use Rattle.vault.specs.Entries.{Put, ChangesBy, Lends, same}
 use Rattle.vault.specs.declared.Reply.{Reply}
 use Rattle.demands.specs.Calls.{bytes, Made}
 use Rattle.demands.specs.Demand1.{Refuses}
 use Rattle.demands.specs.Demand2.{Lines}
-use Rattle.demands.specs.Pla.{DrawnFrom, WrittenAs, DrawnIn, WrittenIn, Pla}
+use Rattle.demands.specs.Pla.{DrawnFrom, GivesBack, WrittenAs, DrawnIn, WrittenIn, Pla}
 use Rattle.demands.proofs.Demand1.{demand-1}
 use Rattle.demands.proofs.Demand2.{class-lines}
-use Rattle.demands.proofs.Demand3.{kept-afresh, good-drawn}
+use Rattle.demands.proofs.Demand3.{kept-afresh, good-drawn, pla-drawn}
 
 -- what is read
 
@@ -99,12 +102,42 @@ module _ {t : List ℕ} where
 left : {out later : List ℕ} {r : Reply} → Refuses r (bytes out) (bytes later) → (r .answer ≡ 0 → ⊥) → later ≡ out
 left x n = let e = x .leaves n in cc
 
+-- what is read back: the record of the sheet's marks and class, with no times
+
+abbrev drawnAgain : Sheet → Record
+drawnAgain s = withTimes (λ c. 0) (recordOf s)
+
+high : (s : Sheet) (c : ℕ) → 2 ^ s .marks ≤ c → recordOf s .class c ≡ false
+high s c l = if (recordOf s .class c) (λ e. absurd (omega (arith, class-small s c e, l))) (λ e. e)
+
+gives-back : {t : List ℕ} (s : Sheet) {a : Read} → PlaSays mostMarks t (good (drawnAgain s)) → ReadsPla mostMarks entries t a → GivesBack s a
+gives-back s {a} p x =
+    let q = drawnAgain s in
+    let told = told-agrees mostMarks entries five q (drawn-marks p) in
+    subst (GivesBack s) (sym (pla-drawn p a x))
+    (record {
+      done = refl;
+      marks = refl;
+      class = λ c. below-or c (2 ^ s .marks) (λ l. told .class c l) (λ l. high (sheetOf entries q) c l ∙ sym (high s c l));
+      nothing-held = drawn q p .nothing-held;
+    })
+
 -- what is written
 
 written : {s : Sheet} {out later : List ℕ} {v : Value} → WritesPla mostMarks s out v later → v .number ≡ 0 → WrittenAs s out v later
 written (WritesPla.spoiled n) z = absurd (omega arith)
 written (WritesPla.short w f l) z = absurd (omega arith)
-written {s} (WritesPla.written {l} w f h) z = record { lines = l; of-class = class-lines s w f; size = refl; stands = refl }
+written {s} {out} (WritesPla.written {l} w f h) z =
+    let t = plaText (s .marks) l in
+    let front = take-at t (drop (length t) out) (length t) refl in
+    let says = pla-back mostMarks (s .marks) (w .marks) (recordOf s .class) l (f .fits) in
+    record {
+      lines = l;
+      of-class = class-lines s w f;
+      size = refl;
+      stands = refl;
+      back = λ x. gives-back s (subst (λ (y : List ℕ). PlaSays mostMarks y (good (drawnAgain s))) (sym front) says) x;
+    }
 
 entry-written : {t out later : List ℕ} {r : Reply} → Lends (WritesPla mostMarks) t out r later → r .answer ≡ 0 → WrittenIn t out r later
 entry-written (Lends.unread u) z = absurd (u .bad (sym (ap (λ (x : Reply). x .answer) (u .reply)) ∙ z))

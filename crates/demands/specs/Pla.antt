@@ -5,7 +5,7 @@ use mathlib.Core.List.{List, [], _++_}
 use mathlib.Core.Logic.{_⊎_}
 use mathlib.Core.Bool.{true}
 use lib.Dec.{eqb}
-use lib.ListN.{length, getD, drop}
+use lib.ListN.{length, getD, take, drop}
 use Rattle.ground.specs.Decides.{Decides}
 use Rattle.print.specs.Texts.{sign}
 use Rattle.tables.specs.Tables.{entry}
@@ -36,12 +36,20 @@ pub record DrawnFrom (t : List ℕ) (s : Sheet) : Type 0 where
   -- its numbers are those worked out from what the text says
   pub sheet : {r : Record} → PlaSays mostMarks t (good r) → s ≡ sheetOf entries r
 
+-- what was read back of the sheet s: its marks and its class, and nothing held
+pub record GivesBack (s : Sheet) (a : Read) : Type 0 where
+  pub done : a .number ≡ 0
+  pub marks : a .sheet .marks ≡ s .marks
+  pub class : (c : ℕ) → recordOf (a .sheet) .class c ≡ recordOf s .class c
+  pub nothing-held : (b : ℕ) → entry (a .sheet .held) b ≡ 0
+
 -- what the writer gave of the sheet s, in the bytes lent for it: the text of demand 2's lines
 pub record WrittenAs (s : Sheet) (out : List ℕ) (v : Value) (later : List ℕ) : Type 0 where
   pub lines : List ℕ
   pub of-class : Lines (s .marks) (recordOf s .class) lines
   pub size : v .value ≡ length (plaText (s .marks) lines)
   pub stands : later ≡ plaText (s .marks) lines ++ drop (length (plaText (s .marks) lines)) out
+  pub back : {a : Read} → ReadsPla mostMarks entries (take (v .value) later) a → GivesBack s a
 
 -- the same through C: of a text that was read the bytes written are the drawn sheet's form; of a sheet in bytes the text is written
 pub record DrawnIn (t out : List ℕ) (r : Reply) (later : List ℕ) : Type 0 where
@@ -68,7 +76,7 @@ pub record Pla : Type 0 where
   pub entry-read : {t out later : List ℕ} {r : Reply} → ChangesBy (ReadsPla mostMarks entries t) same out r later → r .answer ≡ 0 → DrawnIn t out r later
   -- a text that is refused changes no lent byte
   pub refused : {t out later : List ℕ} {r : Reply} → ChangesBy (ReadsPla mostMarks entries t) same out r later → (r .answer ≡ 0 → ⊥) → later ≡ out
-  -- the writer gives the shortest list in our order
+  -- the writer gives the shortest list in our order, and reading it back gives the class
   pub written : {s : Sheet} {out later : List ℕ} {v : Value} → WritesPla mostMarks s out v later → v .number ≡ 0 → WrittenAs s out v later
   pub entry-written : {t out later : List ℕ} {r : Reply} → Lends (WritesPla mostMarks) t out r later → r .answer ≡ 0 → WrittenIn t out r later
   -- 7 as the list does, and then 5 exactly if the text is longer than the room
