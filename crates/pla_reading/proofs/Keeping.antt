@@ -11,6 +11,7 @@ use borrow.Author.Tests.{eq-eqb, ne-eqb, lt-ltb, le-ltb, lt-leb}
 use Rattle.ground.proofs.Cases.{clash, below-or}
 use Rattle.boxes.specs.Boxes.{contains}
 use Rattle.lists.specs.Lists.{covered}
+use Rattle.lists.proofs.Count.{covered-last}
 use Rattle.sets.specs.Sets.{has, valueAt, AllSets}
 use Rattle.sets.proofs.Bits.{has-zero, has-or}
 use Rattle.sheet.specs.Limits.{mostMarks, marksOk}
@@ -18,7 +19,6 @@ use Rattle.sheet.proofs.Tests.{marks-most}
 use Rattle.stored.specs.Fields.{refused}
 use Rattle.pla.specs.Sayings.{Saying, blank, inputs, output, count, cube, end}
 use Rattle.pla.specs.Reading.{Count, uncounted, counted, isCounted, Said as Saids, nothingSaid, on, stop, judge}
-use Rattle.pla.proofs.Drawings.{covered-last}
 use Rattle.pla_lines.specs.Parts.{capped}
 use Rattle.pla_reading.specs.declared.said.Said.{Said}
 use Rattle.pla_reading.specs.declared.said.Next.{Next}
