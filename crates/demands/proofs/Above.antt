@@ -3,6 +3,7 @@ use Rattle.sheet.proofs.Above.{did-alike, did-above}
 use Rattle.sheet.proofs.Agrees.{size-alike}
 use Rattle.listing.proofs.Agrees.{list-alike, total-alike}
 use Rattle.stored.proofs.Agrees.{writes-alike}
+use Rattle.pla.proofs.Agrees.{writes-pla-alike}
 use Rattle.demands.specs.Above.{Above}
 
 pub above : Above
@@ -13,6 +14,7 @@ above = record {
     list = list-alike a;
     total = total-alike a;
     write = writes-alike a;
+    write-pla = writes-pla-alike a;
   };
   not-changed = did-above;
 }

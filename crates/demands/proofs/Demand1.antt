@@ -19,15 +19,17 @@ use Rattle.sheet.specs.declared.Answer.{Answer}
 use Rattle.sheet.specs.declared.Value.{Value}
 use Rattle.sheet.proofs.Answers.{open-done, open-refused}
 use Rattle.listing.specs.Listing.{Searched, Listed, Totalled}
-use Rattle.stored.specs.Fields.{Outcome, good, refused, Reading as ReadsOutcome}
-use Rattle.stored.specs.Answers.{readOf, Reads, Writes}
+use Rattle.stored.specs.Fields.{Outcome, good, refused}
+use Rattle.stored.specs.Answers.{readOf, ReadBy, Reads, Writes}
 use Rattle.stored.specs.declared.Read.{Read}
 use Rattle.stored.proofs.Refusals.{refusals}
+use Rattle.pla.specs.Answers.{ReadsPla, WritesPla}
+use Rattle.pla.proofs.Runs.{refusals as pla-refusals}
 use Rattle.times.specs.Answers.{readingOf, Answered}
 use Rattle.times.specs.declared.Time.{Time}
 use Rattle.times.specs.declared.Reading.{Reading}
 use Rattle.times.specs.declared.Time.the-variants.{Value as Read-value, Fault}
-use Rattle.vault.specs.Entries.{replied, HoldsNone, Put, Changes, Tells, Lends, Compared, KeptAt, same}
+use Rattle.vault.specs.Entries.{replied, HoldsNoneBy, Put, ChangesBy, Tells, Lends, Compared, KeptAt, same}
 use Rattle.vault.specs.declared.Reply.{Reply}
 use Rattle.demands.specs.Calls.{Lent, nothing, sheet, bytes, ofValue, ofRead, ofReading, Made}
 use Rattle.demands.specs.Demand1.{Refuses, Demand1}
@@ -102,18 +104,31 @@ write-refuses (Writes.spoiled n) = left (omega arith)
 write-refuses (Writes.short w l) = left (omega arith)
 write-refuses (Writes.written w l) = done refl
 
+write-pla-refuses : {s : Sheet} {out later : List ℕ} {v : Value} → WritesPla mostMarks s out v later → Refuses (ofValue v) (bytes out) (bytes later)
+write-pla-refuses (WritesPla.spoiled n) = left (omega arith)
+write-pla-refuses (WritesPla.short w f l) = left (omega arith)
+write-pla-refuses (WritesPla.written w f l) = done refl
+
 -- reading
 
-outcome-refuses : {t : List ℕ} {l : Lent} (o : Outcome) → ReadsOutcome mostMarks t o → Refuses (ofRead (readOf entries o)) l l
-outcome-refuses (good r) y = done refl
-outcome-refuses {l = l} (refused k p) y =
-    ⊎-elim
-    (λ (w : (k ≡ 1) × (p ≡ 0)). subst (λ (q : ℕ). Refuses (record { answer = k; place = q; value = 0 }) l l) (sym (w .1)) (left (omega (arith, w .0))))
-    (λ (w : k ≡ 10). subst (λ (x : ℕ). Refuses (record { answer = x; place = p; value = 0 }) l l) (sym w) placed)
-    (refusals y)
+-- whichever way of reading: a refusal is 1 without a place, or 10
+read-by-refuses : {R : Outcome → Type 0} {a : Read} {l : Lent} → ((k p : ℕ) → R (refused k p) → ((k ≡ 1) × (p ≡ 0)) ⊎ (k ≡ 10)) → ReadBy R entries a
+    → Refuses (ofRead a) l l
+read-by-refuses {R} {l = l} fair x = subst (λ (y : Read). Refuses (ofRead y) l l) (sym (x .is)) (by (x .outcome) (x .run))
+  where
+    by : (o : Outcome) → R o → Refuses (ofRead (readOf entries o)) l l
+    by (good r) y = done refl
+    by (refused k p) y =
+        ⊎-elim
+        (λ (w : (k ≡ 1) × (p ≡ 0)). subst (λ (q : ℕ). Refuses (record { answer = k; place = q; value = 0 }) l l) (sym (w .1)) (left (omega (arith, w .0))))
+        (λ (w : k ≡ 10). subst (λ (x : ℕ). Refuses (record { answer = x; place = p; value = 0 }) l l) (sym w) placed)
+        (fair k p y)
 
-read-refuses : {t : List ℕ} {a : Read} {l : Lent} → Reads mostMarks entries t a → Refuses (ofRead a) l l
-read-refuses {l = l} x = subst (λ (y : Read). Refuses (ofRead y) l l) (sym (x .is)) (outcome-refuses (x .outcome) (x .run))
+read-refuses : {t : List ℕ} {l : Lent} (a : Read) → Reads mostMarks entries t a → Refuses (ofRead a) l l
+read-refuses a x = read-by-refuses (λ k p. refusals) x
+
+read-pla-refuses : {t : List ℕ} {l : Lent} (a : Read) → ReadsPla mostMarks entries t a → Refuses (ofRead a) l l
+read-pla-refuses a x = read-by-refuses (λ k p. pla-refusals) x
 
 time-refuses : (x : Time) {l : Lent} → Refuses (ofReading (readingOf x)) l l
 time-refuses (Read-value v) = done refl
@@ -124,26 +139,28 @@ answer-refuses {l = l} a = subst (λ (x : Reading). Refuses (ofReading x) l l) (
 
 -- the entries for C
 
-unread-refuses : {t : List ℕ} {r : Reply} {l : Lent} → HoldsNone t r → Refuses r l l
-unread-refuses {l = l} h = subst (λ (x : Reply). Refuses x l l) (sym (h .reply)) (read-refuses (h .reads))
+unread-refuses : {R : Read → Type 0} {l : Lent} → ((a : Read) → R a → Refuses (ofRead a) l l) → {r : Reply} → HoldsNoneBy R r → Refuses r l l
+unread-refuses {l = l} refuses h = subst (λ (x : Reply). Refuses x l l) (sym (h .reply)) (refuses (h .read) (h .reads))
 
 put-refuses : (a : Answer) {out later : List ℕ} {r : Reply} → a .number ≤ 10 → Put a out r later → Refuses r (bytes out) (bytes later)
 put-refuses a h (Put.refused n) = left h
 put-refuses a h (Put.written z w) = write-refuses w
 
-change-refuses : (call : Sheet → Answer) → ((s : Sheet) → call s .number ≤ 10) → {t out later : List ℕ} {r : Reply} → Changes call t out r later
-    → Refuses r (bytes out) (bytes later)
-change-refuses call h (Changes.unread u) = unread-refuses u
-change-refuses call h (Changes.called {s = s} k p) = put-refuses (call s) (h s) p
+change-refuses : {R : Read → Type 0} (call : Sheet → Answer) → ((s : Sheet) → call s .number ≤ 10) → {out later : List ℕ} {r : Reply}
+    → ((a : Read) → R a → Refuses (ofRead a) (bytes out) (bytes out)) → ChangesBy R call out r later → Refuses r (bytes out) (bytes later)
+change-refuses call h refuses (ChangesBy.unread u) = unread-refuses refuses u
+change-refuses call h refuses (ChangesBy.called {s = s} k p) = put-refuses (call s) (h s) p
 
 tell-refuses : (call : Sheet → Value → Type 0) → ((s : Sheet) (v : Value) → call s v → Refuses (ofValue v) nothing nothing) → {t : List ℕ} {r : Reply}
     → Tells call t r → Refuses r nothing nothing
-tell-refuses call h (Tells.unread u) = unread-refuses u
+tell-refuses call h (Tells.unread u) = unread-refuses read-refuses u
 tell-refuses call h (Tells.told k w) = h _ _ w
 
-lend-refuses : {t area later : List ℕ} {r : Reply} → Lends (Listed mostMarks) t area r later → Refuses r (bytes area) (bytes later)
-lend-refuses (Lends.unread u) = unread-refuses u
-lend-refuses (Lends.lent k w) = list-refuses w
+lend-refuses : (call : Sheet → List ℕ → Value → List ℕ → Type 0) {t area later : List ℕ} {r : Reply}
+    → ((s : Sheet) (v : Value) → call s area v later → Refuses (ofValue v) (bytes area) (bytes later)) → Lends call t area r later
+    → Refuses r (bytes area) (bytes later)
+lend-refuses call h (Lends.unread u) = unread-refuses read-refuses u
+lend-refuses call h (Lends.lent k w) = h _ _ w
 
 kept-refuses : (k : Table) (b : ℕ) (s : Sheet) (v : Value) → KeptAt k b s v → Refuses (ofValue v) nothing nothing
 kept-refuses k b s v e = subst (λ (x : Value). Refuses (ofValue x) nothing nothing) (sym e) (done refl)
@@ -152,9 +169,12 @@ compared-refuses : {first second : List ℕ} {r : Reply} → Compared first seco
 compared-refuses (Compared.keeps n) = done refl
 compared-refuses (Compared.changes b) = done refl
 
-of-refusal : (o : Outcome) → (readOf entries o .number ≡ 0 → ⊥) → readOf entries o .sheet ≡ sheetOf entries (opened 1)
-of-refusal (good r) n = absurd (n refl)
-of-refusal (refused k p) n = refl
+one-mark : (o : Outcome) → (readOf entries o .number ≡ 0 → ⊥) → readOf entries o .sheet ≡ sheetOf entries (opened 1)
+one-mark (good r) n = absurd (n refl)
+one-mark (refused k p) n = refl
+
+of-refusal : {R : Outcome → Type 0} {a : Read} → ReadBy R entries a → (a .number ≡ 0 → ⊥) → a .sheet ≡ sheetOf entries (opened 1)
+of-refusal x n = ap (λ (y : Read). y .sheet) (x .is) ∙ one-mark (x .outcome) (λ e. n (ap (λ (y : Read). y .number) (x .is) ∙ e))
 
 -- EVERY CALL
 every : {r : Reply} {before after : Lent} → Made r before after → Refuses r before after
@@ -163,14 +183,18 @@ every (Made.did s k) = did-refuses s k
 every (Made.class-size w) = size-refuses w
 every (Made.list w) = list-refuses w
 every (Made.total w) = total-refuses w
-every (Made.read x) = read-refuses x
+every (Made.read {a = a} x) = read-refuses a x
 every (Made.write w) = write-refuses w
+every (Made.read-pla {a = a} x) = read-pla-refuses a x
+every (Made.write-pla w) = write-pla-refuses w
 every (Made.read-time {x = x} r) = time-refuses x
 every (Made.answer-time a) = answer-refuses a
 every (Made.vault-open m p) = put-refuses (openOf mostMarks entries m) (open-as (λ (a : Answer). a .number ≤ 10) m (omega arith) (omega arith)) p
-every (Made.vault-change k c) = change-refuses (λ s. didOf mostMarks s k) (λ s. number-le s k) c
-every (Made.vault-copy c) = change-refuses same (λ s. omega arith) c
-every (Made.vault-list w) = lend-refuses w
+every (Made.vault-change k c) = change-refuses (λ s. didOf mostMarks s k) (λ s. number-le s k) read-refuses c
+every (Made.vault-copy c) = change-refuses same (λ s. omega arith) read-refuses c
+every (Made.vault-read-pla c) = change-refuses same (λ s. omega arith) read-pla-refuses c
+every (Made.vault-write-pla w) = lend-refuses (WritesPla mostMarks) (λ s v. write-pla-refuses) w
+every (Made.vault-list w) = lend-refuses (Listed mostMarks) (λ s v. list-refuses) w
 every (Made.vault-class-size w) = tell-refuses (ClassSize mostMarks) (λ s v. size-refuses) w
 every (Made.vault-total w) = tell-refuses (Totalled mostMarks) (λ s v. total-refuses) w
 every (Made.vault-kept k b w) = tell-refuses (KeptAt k b) (kept-refuses k b) w
@@ -181,5 +205,6 @@ pub demand-1 : Demand1
 demand-1 = record {
   every-call = every;
   opening = λ m. open-as (λ (a : Answer). (a .number ≡ 0 → ⊥) → a .sheet ≡ sheetOf entries (opened 1)) m (λ n. absurd (n refl)) (λ n. refl);
-  reading = λ {t} {a} x n. ap (λ (y : Read). y .sheet) (x .is) ∙ of-refusal (x .outcome) (λ e. n (ap (λ (y : Read). y .number) (x .is) ∙ e));
+  reading = of-refusal;
+  reading-pla = of-refusal;
 }

@@ -42,6 +42,10 @@ lines m class l some small f =
     }
 
 module _ (s : Sheet) where
+  pub class-lines : {l : List ℕ} → ClassReady mostMarks s → FirstShortest (s .marks) (recordOf s .class) (recordOf s .class) l
+      → Lines (s .marks) (recordOf s .class) l
+  class-lines {l} w f = lines (s .marks) (recordOf s .class) l (some-marks mostMarks (s .marks) (w .marks)) (class-small s) f
+
   given : {area later : List ℕ} {v : Value} → Listed mostMarks s area v later → ClassReady mostMarks s → 2 ^ s .marks ≤ length area → v .number ≡ 0
   given w r l = ap (λ (x : Value). x .number) (list-finds w r l .answer)
 
@@ -60,7 +64,7 @@ module _ (s : Sheet) where
   printed (Listed.searched w h (Searched.none n)) e = absurd (omega arith)
   printed (Listed.searched w h (Searched.given {l} f)) e = record {
     lines = l;
-    of-class = lines (s .marks) (recordOf s .class) l (some-marks mostMarks (s .marks) (w .marks)) (class-small s) f;
+    of-class = class-lines w f;
     size = refl;
     stands = refl;
     seconds = λ t. seconds f t;

@@ -24,10 +24,16 @@ use Rattle.sheet.proofs.Alters.{did-alters}
 use Rattle.sheet.proofs.Tests.{boxes-fit, accepts}
 use Rattle.listing.specs.Listing.{totalOf, Listed, Totalled}
 use Rattle.stored.specs.Answers.{readOf}
+use Rattle.stored.specs.Fields.{good}
 use Rattle.stored.specs.Form.{form}
 use Rattle.stored.specs.declared.Read.{Read}
 use Rattle.stored.proofs.IsForm.{is-form}
 use Rattle.stored.proofs.Runs.{one}
+use Rattle.pla.specs.Reading.{PlaSays}
+use Rattle.pla.specs.Answers.{ReadsPla}
+use Rattle.pla.proofs.Runs.{says-one-outcome}
+use Rattle.pla.proofs.Drawings.{drawn-marks, drawn-combination}
+use Rattle.pla.proofs.Sound.{drawn-storable}
 use Rattle.histories.specs.Histories.{Good, Given, numberOf, after, afterAll, numbersOf, sheetAfter, numberGiven}
 use Rattle.histories.specs.Travels.{Event, Lives, eventNumber, afterEvent}
 use Rattle.histories.proofs.Afresh.{list-afresh, total-afresh, size-afresh}
@@ -37,7 +43,7 @@ use Rattle.histories.proofs.Travels.{good-read, good-events, lives-afresh}
 use Rattle.vault.specs.Entries.{replied, Tells, Lends, KeptAt}
 use Rattle.vault.specs.Sequences.{Entry, Serves, entryNumber, afterEntry}
 use Rattle.vault.specs.declared.Reply.{Reply}
-use Rattle.vault.proofs.Sequences.{holds-record, holds-some, serves-afresh, good-entries, open-begins}
+use Rattle.vault.proofs.Sequences.{holds-record, holds-some, serves-afresh, good-entries, open-begins, read-begins}
 use Rattle.demands.specs.Demand3.{Begins, BeginsIn, WorkedOut, WorkedOutIn, Demand3}
 
 -- a table worked out afresh keeps of every number the sum over its box, 0 where it is none
@@ -48,7 +54,7 @@ afresh-every n m f b l =
     (λ k. List·getD-eq-default (afresh n m f) 0 (omega (arith, tab-length n (λ x. sumIn m x f))) ∙ sym (sumIn-nothing m b f (omega arith)))
 
 module _ (r : Record) (g : Good r) where
-  kept-afresh : (t : Table) (b : ℕ) → entry (kept t (sheetOf entries r)) b ≡ sumIn (r .marks) b (quantity t r)
+  pub kept-afresh : (t : Table) (b : ℕ) → entry (kept t (sheetOf entries r)) b ≡ sumIn (r .marks) b (quantity t r)
   kept-afresh outside-counts b = afresh-every entries (r .marks) (quantity outside-counts r) b (boxes-fit (r .marks) (g .marks))
   kept-afresh held-seconds b = afresh-every entries (r .marks) (quantity held-seconds r) b (boxes-fit (r .marks) (g .marks))
 
@@ -95,15 +101,23 @@ open-accepted : (m : ℕ) → openOf mostMarks entries m .number ≡ 0 → marks
 open-accepted m z =
     if (marksOk mostMarks m) (λ e. e) (λ e. absurd (omega (arith, ap (λ (a : Answer). a .number) (open-refused mostMarks entries m e))))
 
+pub good-drawn : {t : List ℕ} {r : Record} → PlaSays mostMarks t (good r) → Good r
+good-drawn p = record { marks = drawn-marks p; class = drawn-combination p; times = drawn-storable p .most-held }
+
+pub pla-drawn : {t : List ℕ} {r : Record} → PlaSays mostMarks t (good r) → (a : Read) → ReadsPla mostMarks entries t a → a ≡ readOf entries (good r)
+pla-drawn p a x = x .is ∙ ap (readOf entries) (says-one-outcome (x .run) p)
+
 begins-good : {s : Sheet} {r : Record} → Begins s r → Good r × (s ≡ sheetOf entries r)
 begins-good (Begins.opening m z) =
     let e = open-accepted m z in (good-opened m e, sym (ap (λ (a : Answer). a .sheet) (open-done mostMarks entries m e)))
 begins-good (Begins.reading b x y) =
     (good-read b y, ap (λ (a : Read). a .sheet) (x .is ∙ ap (readOf entries) (one (x .run) y)))
+begins-good (Begins.drawing {a = a} x p) = (good-drawn p, ap (λ (y : Read). y .sheet) (pla-drawn p a x))
 
 begins-in-good : {t : List ℕ} {r : Record} → BeginsIn t r → Good r × (t ≡ form r)
 begins-in-good (BeginsIn.opening m p z) = let w = open-begins m p z in (good-opened m (w .0), w .1)
 begins-in-good (BeginsIn.reading {t} b y) = (good-read b y, is-form t b y .bytes)
+begins-in-good (BeginsIn.drawing {r = r} c z p) = let g = good-drawn p in (g, read-begins r g (pla-drawn p) c z)
 
 -- every sequence
 

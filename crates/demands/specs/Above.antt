@@ -9,6 +9,7 @@ use Rattle.sheet.specs.declared.Sheet.{Sheet}
 use Rattle.sheet.specs.declared.Value.{Value}
 use Rattle.listing.specs.Listing.{Listed, Totalled}
 use Rattle.stored.specs.Answers.{Writes}
+use Rattle.pla.specs.Answers.{WritesPla}
 
 pub record NotRead (s u : Sheet) : Type 0 where
   pub did : (k : Call) → Alike (didOf mostMarks s k) (didOf mostMarks u k)
@@ -16,6 +17,7 @@ pub record NotRead (s u : Sheet) : Type 0 where
   pub list : {area later : List ℕ} {v : Value} → Listed mostMarks s area v later → Listed mostMarks u area v later
   pub total : {v : Value} → Totalled mostMarks s v → Totalled mostMarks u v
   pub write : {out later : List ℕ} {v : Value} → Writes mostMarks s out v later → Writes mostMarks u out v later
+  pub write-pla : {out later : List ℕ} {v : Value} → WritesPla mostMarks s out v later → WritesPla mostMarks u out v later
 
 pub record Above : Type 0 where
   pub not-read : (s u : Sheet) → Long entries s → Long entries u → Agree s u → NotRead s u

@@ -8,6 +8,7 @@ use Rattle.sheet.specs.Record.{sheetOf, opened}
 use Rattle.sheet.specs.Calls.{openOf}
 use Rattle.stored.specs.Answers.{Reads}
 use Rattle.stored.specs.declared.Read.{Read}
+use Rattle.pla.specs.Answers.{ReadsPla}
 use Rattle.vault.specs.declared.Reply.{Reply}
 use Rattle.demands.specs.Calls.{Lent, Made}
 
@@ -23,3 +24,4 @@ pub record Demand1 : Type 0 where
   -- a refused opening, or a refused read, gives the sheet of an opened one-mark class
   pub opening : (m : ℕ) → (openOf mostMarks entries m .number ≡ 0 → ⊥) → openOf mostMarks entries m .sheet ≡ sheetOf entries (opened 1)
   pub reading : {t : List ℕ} {a : Read} → Reads mostMarks entries t a → (a .number ≡ 0 → ⊥) → a .sheet ≡ sheetOf entries (opened 1)
+  pub reading-pla : {t : List ℕ} {a : Read} → ReadsPla mostMarks entries t a → (a .number ≡ 0 → ⊥) → a .sheet ≡ sheetOf entries (opened 1)

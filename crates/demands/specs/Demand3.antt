@@ -19,16 +19,20 @@ use Rattle.listing.specs.Listing.{totalOf, Listed, Totalled}
 use Rattle.stored.specs.Fields.{Bytes, good, Reading}
 use Rattle.stored.specs.Answers.{Reads}
 use Rattle.stored.specs.declared.Read.{Read}
+use Rattle.pla.specs.Reading.{PlaSays}
+use Rattle.pla.specs.Answers.{ReadsPla}
 use Rattle.histories.specs.Histories.{numberOf, after, afterAll, numbersOf, sheetAfter, numberGiven, Given}
 use Rattle.histories.specs.Travels.{Event, Lives, eventNumber, afterEvent}
-use Rattle.vault.specs.Entries.{replied, Put, Tells, Lends, KeptAt}
+use Rattle.vault.specs.Entries.{replied, Put, ChangesBy, Tells, Lends, KeptAt, same}
 use Rattle.vault.specs.Sequences.{Entry, Serves, entryNumber, afterEntry}
 use Rattle.vault.specs.declared.Reply.{Reply}
 
--- how a history begins, and with which record: with an opened sheet, or with what was read (a refused one gives the sheet of `opening 1`: `demand-1`)
+-- how a history begins, and with which record: with an opened sheet, with what was read, or with what a PLA text draws (a refused one gives the sheet of
+-- `opening 1`: `demand-1`)
 pub data Begins : Sheet → Record → Type 0 where
   opening : (m : ℕ) → openOf mostMarks entries m .number ≡ 0 → Begins (openOf mostMarks entries m .sheet) (opened m)
   reading : {t : List ℕ} {a : Read} {r : Record} → Bytes t → Reads mostMarks entries t a → Reading mostMarks t (good r) → Begins (a .sheet) r
+  drawing : {t : List ℕ} {a : Read} {r : Record} → ReadsPla mostMarks entries t a → PlaSays mostMarks t (good r) → Begins (a .sheet) r
 
 -- the sheet is the one worked out afresh from the record r: of each box it keeps the sum over the box's combinations, in the entries of no box 0; and
 -- list, total and class size are the record's
@@ -46,6 +50,8 @@ pub data BeginsIn : List ℕ → Record → Type 0 where
   opening : (m : ℕ) {out later : List ℕ} {reply : Reply} → Put (openOf mostMarks entries m) out reply later → reply .answer ≡ 0
       → BeginsIn (take (reply .value) later) (opened m)
   reading : {t : List ℕ} {r : Record} → Bytes t → Reading mostMarks t (good r) → BeginsIn t r
+  drawing : {t out later : List ℕ} {reply : Reply} {r : Record} → ChangesBy (ReadsPla mostMarks entries t) same out reply later → reply .answer ≡ 0
+      → PlaSays mostMarks t (good r) → BeginsIn (take (reply .value) later) r
 
 pub record WorkedOutIn (r : Record) (t : List ℕ) : Type 0 where
   -- of a number that is no box's the sum is 0

@@ -2,5 +2,6 @@ pub mod Calls
 pub mod Demand1
 pub mod Demand2
 pub mod Demand3
+pub mod Pla
 pub mod Above
 pub mod Known

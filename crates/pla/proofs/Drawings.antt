@@ -302,3 +302,11 @@ drawn-class {most} {t} {r} p c =
     let d = text-draws p in
     subst (λ (x : Record). Decides (x .class c) (Drawn (x .marks) c (linesOf t))) (sym (d .is))
     (record { yes = λ e. ⊎-elim (λ w. clash w refl) (λ w. w) (d .only-these c e); sure = d .lines c })
+
+-- so it has combinations alone
+drawn-below : {m c : ℕ} {ls : List (List ℕ)} → Drawn m c ls → c < 2 ^ m
+drawn-below {m} {c} (here {b = b} y e) = contains-combination m b c e
+drawn-below (later h d) = drawn-below d
+
+pub drawn-combination : {most : ℕ} {t : List ℕ} {r : Record} → PlaSays most t (good r) → (c : ℕ) → r .class c ≡ true → c < 2 ^ r .marks
+drawn-combination p c e = drawn-below (drawn-class p c .yes e)

@@ -3,4 +3,5 @@ pub mod Runs
 pub mod Drawings
 pub mod Sound
 pub mod Settled
+pub mod Agrees
 pub mod Back

@@ -12,7 +12,8 @@ use Rattle.sheet.specs.Promises.{Long}
 use Rattle.sheet.specs.Sound.{Ready, classOf, sizeOf, recordOf}
 use Rattle.sheet.specs.Calls.{ClassSize}
 use Rattle.sheet.proofs.Keeps.{class-of-ready}
-use Rattle.listing.specs.Listing.{totalOf, Totalled}
+use Rattle.listing.specs.Listing.{totalOf, Listed, Totalled}
+use Rattle.pla.specs.Answers.{WritesPla}
 use Rattle.sheet.specs.declared.Sheet.{Sheet}
 use Rattle.sheet.specs.declared.Answer.{Answer}
 use Rattle.sheet.specs.declared.Value.{Value}
@@ -21,14 +22,19 @@ use Rattle.stored.specs.Fields.{Outcome, good, refused}
 use Rattle.stored.specs.declared.Read.{Read}
 use Rattle.stored.proofs.Trips.{read-sound}
 use Rattle.vault.specs.declared.Reply.{Reply}
-use Rattle.vault.specs.Entries.{replied, Holds, HoldsNone, Put, Changes, Tells, Lends, Compared}
+use Rattle.vault.specs.declared.Wanted.{Wanted}
+use Rattle.vault.specs.declared.Wanted.the-variants.{Lines, Pla}
+use Rattle.vault.specs.Parts.{LaidAs}
+use Rattle.vault.specs.Entries.{replied, HoldsBy, HoldsNoneBy, Holds, Put, ChangesBy, Tells, Lends, Compared}
 
-pub holds : {t : List ℕ} {a : Read} → Reads mostMarks entries t a → a .number ≡ 0 → Holds t (a .sheet)
-holds {t} {a} reads done = record { read = a; reads = reads; good = done; sheet = refl }
+-- whichever way of reading
 
-pub holds-none : {t : List ℕ} {a : Read} {r : Reply} → Reads mostMarks entries t a → (a .number ≡ 0 → ⊥)
-    → r ≡ record { answer = a .number; place = a .place; value = 0 } → HoldsNone t r
-holds-none {t} {a} reads bad reply = record { read = a; reads = reads; bad = bad; reply = reply }
+pub holds : {R : Read → Type 0} (a : Read) → R a → a .number ≡ 0 → HoldsBy R (a .sheet)
+holds a reads done = record { read = a; reads = reads; good = done; sheet = refl }
+
+pub holds-none : {R : Read → Type 0} (a : Read) {r : Reply} → R a → (a .number ≡ 0 → ⊥)
+    → r ≡ record { answer = a .number; place = a .place; value = 0 } → HoldsNoneBy R r
+holds-none a reads bad reply = record { read = a; reads = reads; bad = bad; reply = reply }
 
 -- a call's answer, written
 
@@ -39,9 +45,17 @@ pub put-written : (a : Answer) (out : List ℕ) {r : Reply} {v : Value} {later :
     → r ≡ replied (v .number) (v .value) → Put a out r later
 put-written a out {r} {v} {later} z w e = subst (λ (x : Reply). Put a out x later) (sym e) (Put.written z w)
 
-pub put-called : (call : Sheet → Answer) {t out : List ℕ} {s : Sheet} {a : Answer} {r : Reply} {later : List ℕ} → Holds t s → a ≡ call s → Put a out r later
-    → Changes call t out r later
-put-called call {t} {out} {s} {a} {r} {later} k e p = Changes.called k (subst (λ (x : Answer). Put x out r later) e p)
+pub put-called : {R : Read → Type 0} (call : Sheet → Answer) {out : List ℕ} {s : Sheet} {a : Answer} {r : Reply} {later : List ℕ} → HoldsBy R s → a ≡ call s
+    → Put a out r later → ChangesBy R call out r later
+put-called call {out = out} {r = r} {later = later} k e p = ChangesBy.called k (subst (λ (x : Answer). Put x out r later) e p)
+
+-- what is done with something that was read is done with what R reads, where R reads that
+pub changes-read : {R : Read → Type 0} {call : Sheet → Answer} {a : Read} {out : List ℕ} {r : Reply} {later : List ℕ} → R a → ChangesBy (λ x. x ≡ a) call out r later
+    → ChangesBy R call out r later
+changes-read {R} x (ChangesBy.unread u) =
+    ChangesBy.unread (record { read = u .read; reads = subst R (sym (u .reads)) x; bad = u .bad; reply = u .reply })
+changes-read {R} x (ChangesBy.called h p) =
+    ChangesBy.called (record { read = h .read; reads = subst R (sym (h .reads)) x; good = h .good; sheet = h .sheet }) p
 
 -- a value, told or put into a lent area
 
@@ -52,6 +66,12 @@ value-told call {t} k w e = subst (Tells call t) (sym e) (Tells.told k w)
 pub value-lent : (call : Sheet → List ℕ → Value → List ℕ → Type 0) {t area : List ℕ} {s : Sheet} {v : Value} {r : Reply} {later : List ℕ} → Holds t s
     → call s area v later → r ≡ replied (v .number) (v .value) → Lends call t area r later
 value-lent call {t} {area} {later = later} k w e = subst (λ (x : Reply). Lends call t area x later) (sym e) (Lends.lent k w)
+
+pub laid-lines : {what : Wanted} {s : Sheet} {area later : List ℕ} {v : Value} → what ≡ Lines → Listed mostMarks s area v later → LaidAs what s area v later
+laid-lines {s = s} {area} {later} {v} e x = subst (λ (w : Wanted). LaidAs w s area v later) (sym e) x
+
+pub laid-pla : {what : Wanted} {s : Sheet} {area later : List ℕ} {v : Value} → what ≡ Pla → WritesPla mostMarks s area v later → LaidAs what s area v later
+laid-pla {s = s} {area} {later} {v} e x = subst (λ (w : Wanted). LaidAs w s area v later) (sym e) x
 
 -- what a sound sheet answers
 

@@ -25,7 +25,7 @@ use Rattle.histories.proofs.Kept.{did-kept}
 use Rattle.histories.proofs.Goods.{good-after, good-opened}
 use Rattle.histories.proofs.Travels.{form-kept, written-number, five}
 use Rattle.vault.specs.declared.Reply.{Reply}
-use Rattle.vault.specs.Entries.{Holds, HoldsNone, Put, Changes}
+use Rattle.vault.specs.Entries.{Holds, HoldsNone, Put, ChangesBy, Changes, same}
 use Rattle.vault.specs.Sequences.{Entry, changing, copying, lentTo, callOf, Serves, rests, accepted, refused, callNumber, called, entryNumber, afterEntry}
 
 reads-form : (r : Record) → Good r → {a : Read} → Reads mostMarks entries (form r) a → a ≡ readOf entries (good r)
@@ -68,8 +68,8 @@ put-kept r g e (Put.written {v = v} z w) =
     }
 
 entry-kept : (r : Record) → Good r → (e : Entry) {reply : Reply} {later : List ℕ} → Changes (callOf e) (form r) (lentTo e) reply later → EntryKept r e reply later
-entry-kept r g e (Changes.unread u) = absurd (holds-some r g u)
-entry-kept r g e {reply} {later} (Changes.called {s = s} t p) =
+entry-kept r g e (ChangesBy.unread u) = absurd (holds-some r g u)
+entry-kept r g e {reply} {later} (ChangesBy.called {s = s} t p) =
     put-kept r g e (subst (λ (a : Answer). Put a (lentTo e) reply later) (ap (callOf e) (holds-record r g t) ∙ called-kept r g e) p)
 
 good-entry : (r : Record) → Good r → (e : Entry) → Good (afterEntry r e)
@@ -119,3 +119,11 @@ open-begins m {out} {later} {reply} p z =
     if (marksOk mostMarks m)
     (λ e. (e, written-form (opened m) (good-opened m e) (subst (λ (a : Answer). Put a out reply later) (sym (open-done 5 entries m e)) p) z))
     (λ e. absurd (not-written (sheetOf entries (opened 1)) (subst (λ (a : Answer). Put a out reply later) (sym (open-refused 5 entries m e)) p) z))
+
+-- or with what was read as the sheet of a record, whichever way of reading, and written
+pub read-begins : {R : Read → Type 0} (r : Record) → Good r → ((a : Read) → R a → a ≡ readOf entries (good r)) → {out later : List ℕ} {reply : Reply}
+    → ChangesBy R same out reply later → reply .answer ≡ 0 → take (reply .value) later ≡ form r
+read-begins r g is (ChangesBy.unread u) z = absurd (u .bad (sym (ap (λ (x : Reply). x .answer) (u .reply)) ∙ z))
+read-begins r g is {out} {later} {reply} (ChangesBy.called h p) z =
+    let e = sym (h .sheet) ∙ ap (λ (a : Read). a .sheet) (is (h .read) (h .reads)) in
+    written-form r g (subst (λ (s : Sheet). Put (same s) out reply later) e p) z

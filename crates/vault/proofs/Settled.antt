@@ -2,33 +2,41 @@
 use Prim.Native.Nat.{ℕ}
 use mathlib.Core.Path.{_≡_, refl, sym, _∙_, ap, subst}
 use mathlib.Core.List.{List}
-use Rattle.sheet.specs.Limits.{mostMarks}
+use Rattle.sheet.specs.Limits.{mostMarks, entries}
 use Rattle.sheet.specs.Record.{Table}
 use Rattle.sheet.specs.Calls.{ClassSize}
 use Rattle.sheet.specs.declared.Sheet.{Sheet}
 use Rattle.sheet.specs.declared.Answer.{Answer}
 use Rattle.sheet.specs.declared.Value.{Value}
 use Rattle.sheet.proofs.Settled.{size-settled}
+use Rattle.stored.specs.Answers.{Reads}
 use Rattle.stored.specs.declared.Read.{Read}
 use Rattle.stored.proofs.Settled.{reads-settled, writes-settled}
+use Rattle.pla.specs.Answers.{ReadsPla, WritesPla}
+use Rattle.pla.proofs.Settled.{reads-pla-settled, writes-pla-settled}
 use Rattle.listing.specs.Listing.{Listed, Totalled}
 use Rattle.listing.proofs.Settled.{list-settled, total-settled}
 use Rattle.times.specs.Answers.{Answered}
 use Rattle.times.specs.declared.Reading.{Reading}
 use Rattle.times.proofs.Settled.{answer-settled}
 use Rattle.vault.specs.declared.Reply.{Reply}
-use Rattle.vault.specs.Entries.{replied, Holds, HoldsNone, Put, Changes, Tells, Lends, Compared, KeptAt, timeIn}
+use Rattle.vault.specs.Entries.{replied, HoldsBy, HoldsNoneBy, Put, ChangesBy, Changes, Tells, Lends, Compared, KeptAt, same, timeIn}
 
--- what the bytes read as
+-- what is read, by a way of reading that gives one answer at most
 
-one-sheet : {t : List ℕ} {s u : Sheet} → Holds t s → Holds t u → s ≡ u
-one-sheet p q = sym (p .sheet) ∙ ap (λ (a : Read). a .sheet) (reads-settled (p .reads) (q .reads)) ∙ q .sheet
+module _ {R : Read → Type 0} (alone : (a b : Read) → R a → R b → a ≡ b) where
+  one-sheet : {s u : Sheet} → HoldsBy R s → HoldsBy R u → s ≡ u
+  one-sheet p q = sym (p .sheet) ∙ ap (λ (a : Read). a .sheet) (alone _ _ (p .reads) (q .reads)) ∙ q .sheet
 
-one-refusal : {t : List ℕ} {r z : Reply} → HoldsNone t r → HoldsNone t z → r ≡ z
-one-refusal p q = p .reply ∙ ap (λ (a : Read). record { answer = a .number; place = a .place; value = 0 }) (reads-settled (p .reads) (q .reads)) ∙ sym (q .reply)
+  one-refusal : {r z : Reply} → HoldsNoneBy R r → HoldsNoneBy R z → r ≡ z
+  one-refusal p q =
+      p .reply ∙ ap (λ (a : Read). record { answer = a .number; place = a .place; value = 0 }) (alone _ _ (p .reads) (q .reads)) ∙ sym (q .reply)
 
-not-both : {t : List ℕ} {r : Reply} {s : Sheet} → HoldsNone t r → Holds t s → ⊥
-not-both p q = p .bad (ap (λ (a : Read). a .number) (reads-settled (p .reads) (q .reads)) ∙ q .good)
+  not-both : {r : Reply} {s : Sheet} → HoldsNoneBy R r → HoldsBy R s → ⊥
+  not-both p q = p .bad (ap (λ (a : Read). a .number) (alone _ _ (p .reads) (q .reads)) ∙ q .good)
+
+stored-alone : (t : List ℕ) (a b : Read) → Reads mostMarks entries t a → Reads mostMarks entries t b → a ≡ b
+stored-alone t a b = reads-settled
 
 -- what is written
 
@@ -43,31 +51,40 @@ put-settled (Put.written p v) (Put.written q w) = let e = writes-settled v w in 
 
 -- changes, values told, and lists lent
 
-pub changes-settled : {call : Sheet → Answer} {t out x y : List ℕ} {r z : Reply} → Changes call t out r x → Changes call t out z y → (r ≡ z) × (x ≡ y)
-changes-settled (Changes.unread p) (Changes.unread q) = (one-refusal p q, refl)
-changes-settled (Changes.unread p) (Changes.called q w) = absurd (not-both p q)
-changes-settled (Changes.called p v) (Changes.unread q) = absurd (not-both q p)
-changes-settled {call} {t} {out} (Changes.called {r = r} {later = x} p v) (Changes.called q w) =
-    put-settled (subst (λ (s : Sheet). Put (call s) out r x) (one-sheet p q) v) w
+pub changes-by-settled : {R : Read → Type 0} → ((a b : Read) → R a → R b → a ≡ b) → {call : Sheet → Answer} {out x y : List ℕ} {r z : Reply}
+    → ChangesBy R call out r x → ChangesBy R call out z y → (r ≡ z) × (x ≡ y)
+changes-by-settled alone (ChangesBy.unread p) (ChangesBy.unread q) = (one-refusal alone p q, refl)
+changes-by-settled alone (ChangesBy.unread p) (ChangesBy.called q w) = absurd (not-both alone p q)
+changes-by-settled alone (ChangesBy.called p v) (ChangesBy.unread q) = absurd (not-both alone q p)
+changes-by-settled alone {call} {out} (ChangesBy.called {r = r} {later = x} p v) (ChangesBy.called q w) =
+    put-settled (subst (λ (s : Sheet). Put (call s) out r x) (one-sheet alone p q) v) w
 
 pub tells-settled : {call : Sheet → Value → Type 0} → ((s : Sheet) (v w : Value) → call s v → call s w → v ≡ w)
     → {t : List ℕ} {r z : Reply} → Tells call t r → Tells call t z → r ≡ z
-tells-settled one (Tells.unread p) (Tells.unread q) = one-refusal p q
-tells-settled one (Tells.unread p) (Tells.told q w) = absurd (not-both p q)
-tells-settled one (Tells.told p v) (Tells.unread q) = absurd (not-both q p)
-tells-settled {call} one (Tells.told {v = a} p v) (Tells.told q w) = value-reply (one _ _ _ (subst (λ (s : Sheet). call s a) (one-sheet p q) v) w)
+tells-settled one {t} (Tells.unread p) (Tells.unread q) = one-refusal (stored-alone t) p q
+tells-settled one {t} (Tells.unread p) (Tells.told q w) = absurd (not-both (stored-alone t) p q)
+tells-settled one {t} (Tells.told p v) (Tells.unread q) = absurd (not-both (stored-alone t) q p)
+tells-settled {call} one {t} (Tells.told {v = a} p v) (Tells.told q w) =
+    value-reply (one _ _ _ (subst (λ (s : Sheet). call s a) (one-sheet (stored-alone t) p q) v) w)
 
 pub lends-settled : {call : Sheet → List ℕ → Value → List ℕ → Type 0}
     → ((s : Sheet) (area : List ℕ) (v w : Value) (x y : List ℕ) → call s area v x → call s area w y → (v ≡ w) × (x ≡ y))
     → {t area x y : List ℕ} {r z : Reply} → Lends call t area r x → Lends call t area z y → (r ≡ z) × (x ≡ y)
-lends-settled one (Lends.unread p) (Lends.unread q) = (one-refusal p q, refl)
-lends-settled one (Lends.unread p) (Lends.lent q w) = absurd (not-both p q)
-lends-settled one (Lends.lent p v) (Lends.unread q) = absurd (not-both q p)
-lends-settled {call} one {area = area} (Lends.lent {v = a} {later = x} p v) (Lends.lent q w) =
-    let e = one _ area _ _ _ _ (subst (λ (s : Sheet). call s area a x) (one-sheet p q) v) w in
+lends-settled one {t} (Lends.unread p) (Lends.unread q) = (one-refusal (stored-alone t) p q, refl)
+lends-settled one {t} (Lends.unread p) (Lends.lent q w) = absurd (not-both (stored-alone t) p q)
+lends-settled one {t} (Lends.lent p v) (Lends.unread q) = absurd (not-both (stored-alone t) q p)
+lends-settled {call} one {t} {area} (Lends.lent {v = a} {later = x} p v) (Lends.lent q w) =
+    let e = one _ area _ _ _ _ (subst (λ (s : Sheet). call s area a x) (one-sheet (stored-alone t) p q) v) w in
     (value-reply (e .0), e .1)
 
--- each entry that tells or lends
+-- each entry
+
+pub changes-settled : {call : Sheet → Answer} {t out x y : List ℕ} {r z : Reply} → Changes call t out r x → Changes call t out z y → (r ≡ z) × (x ≡ y)
+changes-settled {t = t} p q = changes-by-settled (stored-alone t) p q
+
+pub vault-read-pla-settled : {t out x y : List ℕ} {r z : Reply} → ChangesBy (ReadsPla mostMarks entries t) same out r x
+    → ChangesBy (ReadsPla mostMarks entries t) same out z y → (r ≡ z) × (x ≡ y)
+vault-read-pla-settled p q = changes-by-settled (λ a b. reads-pla-settled) p q
 
 pub vault-size-settled : {t : List ℕ} {r z : Reply} → Tells (ClassSize mostMarks) t r → Tells (ClassSize mostMarks) t z → r ≡ z
 vault-size-settled = tells-settled (λ s v w. size-settled)
@@ -80,6 +97,9 @@ vault-kept-settled k b = tells-settled (λ s v w p q. p ∙ sym q)
 
 pub vault-list-settled : {t area x y : List ℕ} {r z : Reply} → Lends (Listed mostMarks) t area r x → Lends (Listed mostMarks) t area z y → (r ≡ z) × (x ≡ y)
 vault-list-settled = lends-settled (λ s area v w x y. list-settled)
+
+pub vault-write-pla-settled : {t area x y : List ℕ} {r z : Reply} → Lends (WritesPla mostMarks) t area r x → Lends (WritesPla mostMarks) t area z y → (r ≡ z) × (x ≡ y)
+vault-write-pla-settled = lends-settled (λ s area v w x y. writes-pla-settled)
 
 pub before-settled : {first second : List ℕ} {r z : Reply} → Compared first second r → Compared first second z → r ≡ z
 before-settled (Compared.keeps p) (Compared.keeps q) = refl

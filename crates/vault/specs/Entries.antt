@@ -19,28 +19,40 @@ use Rattle.vault.specs.declared.Reply.{Reply}
 abbrev pub replied : ℕ → ℕ → Reply
 replied number value = record { answer = number; place = 0; value = value }
 
--- the bytes that were lent hold this sheet; or they hold none, and the number and the place of reading them are replied
-pub record Holds (t : List ℕ) (s : Sheet) : Type 0 where
+-- What was lent, read by some way of reading R, gives this sheet; or it is refused, and the number and the place of reading it are replied.
+pub record HoldsBy (R : Read → Type 0) (s : Sheet) : Type 0 where
   pub read : Read
-  pub reads : Reads mostMarks entries t read
+  pub reads : R read
   pub good : read .number ≡ 0
   pub sheet : read .sheet ≡ s
 
-pub record HoldsNone (t : List ℕ) (r : Reply) : Type 0 where
+pub record HoldsNoneBy (R : Read → Type 0) (r : Reply) : Type 0 where
   pub read : Read
-  pub reads : Reads mostMarks entries t read
+  pub reads : R read
   pub bad : read .number ≡ 0 → ⊥
   pub reply : r ≡ record { answer = read .number; place = read .place; value = 0 }
+
+-- the bytes t hold this sheet in its stored form, or none
+
+abbrev pub Holds : List ℕ → Sheet → Type 0
+Holds t s = HoldsBy (Reads mostMarks entries t) s
+
+abbrev pub HoldsNone : List ℕ → Reply → Type 0
+HoldsNone t r = HoldsNoneBy (Reads mostMarks entries t) r
 
 -- a sheet that a call left, or its refusal, written to the lent bytes `out`
 pub data Put (a : Answer) (out : List ℕ) : Reply → List ℕ → Type 0 where
   refused : (a .number ≡ 0 → ⊥) → Put a out (replied (a .number) 0) out
   written : {v : Value} {later : List ℕ} → a .number ≡ 0 → Writes mostMarks (a .sheet) out v later → Put a out (replied (v .number) (v .value)) later
 
--- an entry that changes the sheet in the bytes t by a call, and writes it to the bytes `out`
-pub data Changes (call : Sheet → Answer) (t out : List ℕ) : Reply → List ℕ → Type 0 where
-  unread : {r : Reply} → HoldsNone t r → Changes call t out r out
-  called : {s : Sheet} {r : Reply} {later : List ℕ} → Holds t s → Put (call s) out r later → Changes call t out r later
+-- an entry that makes a call on the sheet that R reads, and writes what is left to the bytes `out`
+pub data ChangesBy (R : Read → Type 0) (call : Sheet → Answer) (out : List ℕ) : Reply → List ℕ → Type 0 where
+  unread : {r : Reply} → HoldsNoneBy R r → ChangesBy R call out r out
+  called : {s : Sheet} {r : Reply} {later : List ℕ} → HoldsBy R s → Put (call s) out r later → ChangesBy R call out r later
+
+-- on the sheet in the bytes t
+abbrev pub Changes : (Sheet → Answer) → List ℕ → List ℕ → Reply → List ℕ → Type 0
+Changes call t out r later = ChangesBy (Reads mostMarks entries t) call out r later
 
 -- an entry that reads a value off the sheet in the bytes t
 pub data Tells (call : Sheet → Value → Type 0) (t : List ℕ) : Reply → Type 0 where

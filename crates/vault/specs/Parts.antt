@@ -1,12 +1,17 @@
 -- What the functions behind the entries tell each other.
+use Prim.Native.Nat.{ℕ}
+use mathlib.Core.List.{List}
 use Rattle.sheet.specs.Limits.{mostMarks}
 use Rattle.sheet.specs.Record.{outside-counts, held-seconds}
 use Rattle.sheet.specs.Calls.{ClassSize}
 use Rattle.sheet.specs.declared.Sheet.{Sheet}
 use Rattle.sheet.specs.declared.Value.{Value}
-use Rattle.listing.specs.Listing.{Totalled}
+use Rattle.listing.specs.Listing.{Listed, Totalled}
+use Rattle.pla.specs.Answers.{WritesPla}
 use Rattle.vault.specs.declared.Question.{Question}
 use Rattle.vault.specs.declared.Question.the-variants.{Size, Total, Outside, Held}
+use Rattle.vault.specs.declared.Wanted.{Wanted}
+use Rattle.vault.specs.declared.Wanted.the-variants.{Lines, Pla}
 use Rattle.vault.specs.Entries.{KeptAt}
 
 -- what a sheet answers to a question
@@ -15,3 +20,8 @@ AnswerTo Size = ClassSize mostMarks
 AnswerTo Total = Totalled mostMarks
 AnswerTo (Outside b) = KeptAt outside-counts b
 AnswerTo (Held b) = KeptAt held-seconds b
+
+-- what is put of it into an area
+abbrev pub LaidAs : Wanted → Sheet → List ℕ → Value → List ℕ → Type 0
+LaidAs Lines = Listed mostMarks
+LaidAs Pla = WritesPla mostMarks

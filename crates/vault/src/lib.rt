@@ -3,13 +3,14 @@ ghost use mathlib.Core.Path.{_≡_};
 ghost use Rattle.tables.specs.Tables.{entry};
 ghost use Rattle.sheet.specs.Limits.{mostMarks, entries};
 ghost use Rattle.sheet.specs.Record.{outside-counts, held-seconds};
-ghost use Rattle.sheet.specs.Sound.{Ready};
+ghost use Rattle.sheet.specs.Sound.{ClassReady, Ready};
 ghost use Rattle.sheet.specs.Calls.{openOf, didOf, ClassSize};
 ghost use Rattle.sheet.specs.declared.Call.the-variants.{Enter, Leave, Receive, Withdraw};
 ghost use Rattle.listing.specs.Listing.{Listed, Totalled};
+ghost use Rattle.pla.specs.Answers.{ReadsPla, WritesPla};
 ghost use Rattle.times.specs.Answers.{Answered};
-ghost use Rattle.vault.specs.Entries.{Put, Changes, Tells, Lends, Compared, KeptAt, same, replied, timeIn};
-ghost use Rattle.vault.specs.Parts.{AnswerTo};
+ghost use Rattle.vault.specs.Entries.{Put, ChangesBy, Changes, Tells, Lends, Compared, KeptAt, same, replied, timeIn};
+ghost use Rattle.vault.specs.Parts.{AnswerTo, LaidAs};
 use sheet::Answer;
 use sheet::Call;
 use sheet::Sheet;
@@ -71,6 +72,18 @@ fn change(sheet: &[u8], call: Call, out: &mut [u8]) -> Reply
     put(s.did(call), out)
 }
 
+// What was read, written as it is; or the reading's refusal.
+fn rewritten(r: Read, out: &mut [u8]) -> Reply
+    requires { ⌜ Ready mostMarks (r .sheet) ⌝ }
+    ensures { λ reply. ⌜ ChangesBy (λ a. a ≡ r) same (now (out .entry)) reply (now (out .exit)) ⌝ }
+{
+    if r.number != 0 {
+        return unread(r);
+    }
+    let sheet = r.sheet;
+    put(Answer { number: 0, sheet }, out)
+}
+
 // A kept number of the box b.
 fn kept(t: [u32; Sheet::ENTRIES], b: u64) -> Value
     ensures { λ r. ⌜ r ≡ record { number = 0; value = entry t b } ⌝ }
@@ -129,6 +142,35 @@ fn tell(sheet: &[u8], q: Question) -> Reply
     replied(answer(s, q))
 }
 
+// What is put of a lent sheet into an area: the shortest list of its class, or the PLA text of that.
+pub enum Wanted {
+    Lines,
+    Pla,
+}
+
+// Puts it there, of a sheet whose class table is sound.
+fn lay(s: Sheet, what: Wanted, area: &mut [u8]) -> Value
+    requires { ⌜ ClassReady mostMarks s ⌝ }
+    ensures { λ r. ⌜ LaidAs what s (now (area .entry)) r (now (area .exit)) ⌝ }
+{
+    match what {
+        Wanted::Lines => listing::list_sound(s, area),
+        Wanted::Pla => pla_writing::write_sound(s, area),
+    }
+}
+
+// Puts it there, of the lent sheet.
+fn lend(sheet: &[u8], what: Wanted, area: &mut [u8]) -> Reply
+    ensures { λ r. ⌜ Lends (LaidAs what) (now (sheet .entry)) (now (area .entry)) r (now (area .exit)) ⌝ }
+{
+    let read = reading::read(sheet);
+    if read.number != 0 {
+        return unread(read);
+    }
+    let s = read.sheet;
+    replied(lay(s, what, area))
+}
+
 // A sheet of so many marks.
 #[no_mangle]
 pub extern "C" fn vault_open(marks: u64, out: &mut [u8]) -> Reply
@@ -184,18 +226,15 @@ pub extern "C" fn vault_withdraw(
 pub extern "C" fn vault_copy(sheet: &[u8], out: &mut [u8]) -> Reply
     ensures { λ r. ⌜ Changes same (now (sheet .entry)) (now (out .entry)) r (now (out .exit)) ⌝ }
 {
-    let read = reading::read(sheet);
-    if read.number != 0 {
-        return unread(read);
-    }
-    let s = read.sheet;
-    put(
-        Answer {
-            number: 0,
-            sheet: s,
-        },
-        out,
-    )
+    rewritten(reading::read(sheet), out)
+}
+
+// What a PLA text draws, written in its stored form.
+#[no_mangle]
+pub extern "C" fn vault_read_pla(text: &[u8], out: &mut [u8]) -> Reply
+    ensures { λ r. ⌜ ChangesBy (ReadsPla mostMarks entries (now (text .entry))) same (now (out .entry)) r (now (out .exit)) ⌝ }
+{
+    rewritten(pla_reading::read(text), out)
 }
 
 // The shortest list of the class.
@@ -203,12 +242,15 @@ pub extern "C" fn vault_copy(sheet: &[u8], out: &mut [u8]) -> Reply
 pub extern "C" fn vault_list(sheet: &[u8], area: &mut [u8]) -> Reply
     ensures { λ r. ⌜ Lends (Listed mostMarks) (now (sheet .entry)) (now (area .entry)) r (now (area .exit)) ⌝ }
 {
-    let read = reading::read(sheet);
-    if read.number != 0 {
-        return unread(read);
-    }
-    let s = read.sheet;
-    replied(listing::list_sound(s, area))
+    lend(sheet, Wanted::Lines, area)
+}
+
+// The shortest list of the class, as a PLA text.
+#[no_mangle]
+pub extern "C" fn vault_write_pla(sheet: &[u8], out: &mut [u8]) -> Reply
+    ensures { λ r. ⌜ Lends (WritesPla mostMarks) (now (sheet .entry)) (now (out .entry)) r (now (out .exit)) ⌝ }
+{
+    lend(sheet, Wanted::Pla, out)
 }
 
 // How many combinations are in the class.

@@ -5,13 +5,13 @@ use Rattle.sheet.specs.Limits.{mostMarks}
 use Rattle.sheet.specs.Sound.{Ready}
 use Rattle.sheet.specs.declared.Answer.{Answer}
 use Rattle.sheet.proofs.Keeps.{ready-kept}
-use Rattle.vault.specs.Entries.Changes.{unread}
+use Rattle.vault.specs.Entries.ChangesBy.{unread}
 use Rattle.vault.proofs.Replies.{holds, holds-none, holds-long, holds-ready, put-called}
 use Rattle.vault.proofs.change.Statement.{statement}
 use Rattle.vault.proofs.change.Tie as tie
 
 returns : tie.Need-returns
-returns c = unread (holds-none (c .before .before .before .read .ensures) (c .before .if1 .taken) (c .unread .ensures))
+returns c = unread (holds-none _ (c .before .before .before .read .ensures) (c .before .if1 .taken) (c .unread .ensures))
 
 put-requires : tie.Need-put-requires
 put-requires c κs =
@@ -20,7 +20,7 @@ put-requires c κs =
     subst (λ (a : Answer). Ready mostMarks (a .sheet)) (sym (c .before .did .ensures)) (ready-kept _ (holds-long read) (c .before .before .before .before .before .before .before .before .args .call) ready)
 
 returns-2 : tie.Need-returns-2
-returns-2 c = put-called _ (holds (c .before .before .before .before .before .before .before .before .read .ensures) (c .before .before .before .before .before .before .if1 .left)) (c .before .before .before .before .did .ensures) (c .before .before .put .ensures)
+returns-2 c = put-called _ (holds _ (c .before .before .before .before .before .before .before .before .read .ensures) (c .before .before .before .before .before .before .if1 .left)) (c .before .before .before .before .did .ensures) (c .before .before .put .ensures)
 
 pub change-spec : {M : Type 1} → statement M
 change-spec =

@@ -1,0 +1,157 @@
+-- A good text draws a record, and the sheet read is the one worked out from it; what the writer gives is the text of the one first shortest list.
+use Prim.Native.Nat.{ℕ, _-_, _/_, _%_, _^_, _<_}
+use mathlib.Core.Path.{_≡_, refl, sym, _∙_, ap, subst}
+use mathlib.Core.List.{List, []}
+use mathlib.Core.Logic.{_⊎_, ⊎-elim}
+use native.Mathlib.Omega.{arith}
+use lib.Dec.{eqb}
+use lib.ListN.{length, getD}
+use Rattle.ground.specs.Decides.{Decides}
+use Rattle.ground.proofs.Cases.{clash}
+use Rattle.boxes.specs.Boxes.{contains, sumIn}
+use Rattle.boxes.specs.Sums.{only}
+use Rattle.boxes.proofs.Sums.{sum-ext, sum-zero, only-zero}
+use Rattle.print.specs.Texts.{sign}
+use Rattle.print.proofs.Patterns.{pattern-mark}
+use Rattle.sheet.specs.Limits.{mostMarks, entries}
+use Rattle.sheet.specs.Record.{Record, held-seconds, sheetOf}
+use Rattle.sheet.specs.Sound.{ClassReady, recordOf}
+use Rattle.sheet.specs.declared.Sheet.{Sheet}
+use Rattle.sheet.specs.declared.Value.{Value}
+use Rattle.listing.specs.Listing.{Searched, Listed}
+use Rattle.listing.proofs.Finds.{class-small}
+use Rattle.stored.specs.Fields.{Outcome, good, refused}
+use Rattle.stored.specs.Answers.{readOf, Writes}
+use Rattle.stored.specs.declared.Read.{Read}
+use Rattle.stored.proofs.Trips.{told-agrees}
+use Rattle.histories.proofs.Travels.{five}
+use Rattle.pla.specs.Sayings.{cube, Says}
+use Rattle.pla.specs.Reading.{PlaSays}
+use Rattle.pla.specs.Writing.{plaText}
+use Rattle.pla.specs.Answers.{ReadsPla, WritesPla}
+use Rattle.pla.proofs.Runs.{refusals, says-one-outcome}
+use Rattle.pla.proofs.Drawings.{drawn-marks, drawn-times, drawn-class, drawn-combination}
+use Rattle.pla.proofs.Settled.{reads-pla-some, reads-pla-settled}
+use Rattle.vault.specs.Entries.{Put, ChangesBy, Lends, same}
+use Rattle.vault.specs.declared.Reply.{Reply}
+use Rattle.demands.specs.Calls.{bytes, Made}
+use Rattle.demands.specs.Demand1.{Refuses}
+use Rattle.demands.specs.Demand2.{Lines}
+use Rattle.demands.specs.Pla.{DrawnFrom, WrittenAs, DrawnIn, WrittenIn, Pla}
+use Rattle.demands.proofs.Demand1.{demand-1}
+use Rattle.demands.proofs.Demand2.{class-lines}
+use Rattle.demands.proofs.Demand3.{kept-afresh, good-drawn}
+
+-- what is read
+
+outcome-numbers : {t : List ℕ} (o : Outcome) → PlaSays mostMarks t o → (readOf entries o .number ≡ 0 → ⊥)
+    → ((readOf entries o .number ≡ 1) × (readOf entries o .place ≡ 0)) ⊎ (readOf entries o .number ≡ 10)
+outcome-numbers (good r) y n = absurd (n refl)
+outcome-numbers (refused k p) y n = refusals y
+
+numbers : {t : List ℕ} {a : Read} → ReadsPla mostMarks entries t a → (a .number ≡ 0 → ⊥) → ((a .number ≡ 1) × (a .place ≡ 0)) ⊎ (a .number ≡ 10)
+numbers x n =
+    subst (λ (y : Read). ((y .number ≡ 1) × (y .place ≡ 0)) ⊎ (y .number ≡ 10)) (sym (x .is))
+    (outcome-numbers (x .outcome) (x .run) (λ e. n (ap (λ (y : Read). y .number) (x .is) ∙ e)))
+
+leftmost : {m b : ℕ} {ws : List (List ℕ)} → Says m ws (cube b) → (i : ℕ) → i < m → getD (getD ws 0 []) (m - 1 - i) 0 ≡ sign (b / 3 ^ i % 3)
+leftmost {m} {b} (Says.drawn l e) i h = ap (λ (x : List (List ℕ)). getD (getD x 0 []) (m - 1 - i) 0) e ∙ pattern-mark m b i h
+
+-- a box of combinations that hold nothing holds nothing
+none-held : (m b : ℕ) (f : ℕ → ℕ) → ((c : ℕ) → f c ≡ 0) → sumIn m b f ≡ 0
+unfolding sumIn
+none-held m b f h = sum-ext (2 ^ m) _ (λ c. 0) (λ c l. ap (only (contains m b c)) (h c) ∙ only-zero (contains m b c)) ∙ sum-zero (2 ^ m)
+
+module _ {t : List ℕ} where
+  drawn : (r : Record) → PlaSays mostMarks t (good r) → DrawnFrom t (sheetOf entries r)
+  drawn r p =
+      let s = sheetOf entries r in
+      let told = told-agrees mostMarks entries five r (drawn-marks p) in
+      record {
+        marks = drawn-marks p;
+        class = λ c. record {
+          yes = λ e. drawn-class p c .yes (sym (told .class c (class-small s c e)) ∙ e);
+          sure = λ d. let e = drawn-class p c .sure d in told .class c (drawn-combination p c e) ∙ e;
+        };
+        nothing-held = λ b. kept-afresh r (good-drawn p) held-seconds b ∙ none-held (r .marks) b (r .times) (drawn-times p);
+        sheet = λ q. ap (λ (o : Outcome). readOf entries o .sheet) (says-one-outcome p q);
+      }
+
+  by-outcome : (o : Outcome) → PlaSays mostMarks t o → readOf entries o .number ≡ 0 → DrawnFrom t (readOf entries o .sheet)
+  by-outcome (good r) y z = drawn r y
+  by-outcome (refused k p) y z = absurd (⊎-elim (λ (w : (k ≡ 1) × (p ≡ 0)). omega (arith, w .0, z)) (λ (w : k ≡ 10). omega (arith, w, z)) (refusals y))
+
+  read : {a : Read} → ReadsPla mostMarks entries t a → a .number ≡ 0 → DrawnFrom t (a .sheet)
+  read x z =
+      subst (λ (y : Read). DrawnFrom t (y .sheet)) (sym (x .is))
+      (by-outcome (x .outcome) (x .run) (sym (ap (λ (y : Read). y .number) (x .is)) ∙ z))
+
+  put-drawn : {s : Sheet} {out later : List ℕ} {r : Reply} → DrawnFrom t s → Put (same s) out r later → r .answer ≡ 0 → DrawnIn t out r later
+  put-drawn d (Put.refused n) z = absurd (n refl)
+  put-drawn d (Put.written y (Writes.spoiled n)) z = absurd (omega arith)
+  put-drawn d (Put.written y (Writes.short w l)) z = absurd (omega arith)
+  put-drawn {s} d (Put.written y (Writes.written w l)) z = record { sheet = s; drawn = d; size = refl; stands = refl }
+
+  entry-read : {out later : List ℕ} {r : Reply} → ChangesBy (ReadsPla mostMarks entries t) same out r later → r .answer ≡ 0 → DrawnIn t out r later
+  entry-read (ChangesBy.unread u) z = absurd (u .bad (sym (ap (λ (x : Reply). x .answer) (u .reply)) ∙ z))
+  entry-read (ChangesBy.called h p) z = put-drawn (subst (DrawnFrom t) (h .sheet) (read (h .reads) (h .good))) p z
+
+left : {out later : List ℕ} {r : Reply} → Refuses r (bytes out) (bytes later) → (r .answer ≡ 0 → ⊥) → later ≡ out
+left x n = let e = x .leaves n in cc
+
+-- what is written
+
+written : {s : Sheet} {out later : List ℕ} {v : Value} → WritesPla mostMarks s out v later → v .number ≡ 0 → WrittenAs s out v later
+written (WritesPla.spoiled n) z = absurd (omega arith)
+written (WritesPla.short w f l) z = absurd (omega arith)
+written {s} (WritesPla.written {l} w f h) z = record { lines = l; of-class = class-lines s w f; size = refl; stands = refl }
+
+entry-written : {t out later : List ℕ} {r : Reply} → Lends (WritesPla mostMarks) t out r later → r .answer ≡ 0 → WrittenIn t out r later
+entry-written (Lends.unread u) z = absurd (u .bad (sym (ap (λ (x : Reply). x .answer) (u .reply)) ∙ z))
+entry-written (Lends.lent {s = s} h w) z = record { sheet = s; held-in = h; written = written w z }
+
+-- 7 is for a class table that is not sound
+
+abbrev SevenIf : Sheet → ℕ → Type 0
+SevenIf s n = (n ≡ 7 → ClassReady mostMarks s → ⊥) × ((ClassReady mostMarks s → ⊥) → n ≡ 7)
+
+written-seven : {s : Sheet} {out later : List ℕ} {v : Value} → WritesPla mostMarks s out v later → SevenIf s (v .number)
+written-seven (WritesPla.spoiled n) = (λ e. n, λ k. refl)
+written-seven (WritesPla.short w f l) = (λ e. absurd (omega arith), λ k. absurd (k w))
+written-seven (WritesPla.written w f l) = (λ e. absurd (omega arith), λ k. absurd (k w))
+
+listed-seven : {s : Sheet} {area later : List ℕ} {v : Value} → Listed mostMarks s area v later → SevenIf s (v .number)
+listed-seven (Listed.spoiled n) = (λ e. n, λ k. refl)
+listed-seven (Listed.short w l) = (λ e. absurd (omega arith), λ k. absurd (k w))
+listed-seven (Listed.searched w l (Searched.none n)) = (λ e. absurd (omega arith), λ k. absurd (k w))
+listed-seven (Listed.searched w l (Searched.given g)) = (λ e. absurd (omega arith), λ k. absurd (k w))
+
+seven : {s : Sheet} {out later area after : List ℕ} {v w : Value} → WritesPla mostMarks s out v later → Listed mostMarks s area w after
+    → (v .number ≡ 7 → w .number ≡ 7) × (w .number ≡ 7 → v .number ≡ 7)
+seven x y =
+    let p = written-seven x in
+    let q = listed-seven y in
+    (λ e. q .1 (p .0 e), λ e. p .1 (q .0 e))
+
+five-exactly : {s : Sheet} {out later l : List ℕ} {v : Value} → WritesPla mostMarks s out v later → (v .number ≡ 7 → ⊥) → Lines (s .marks) (recordOf s .class) l
+    → Decides (eqb (v .number) 5) (length out < length (plaText (s .marks) l))
+five-exactly (WritesPla.spoiled n) k q = absurd (k refl)
+five-exactly {s} {out} (WritesPla.short w f h) k q =
+    record { yes = λ e. subst (λ (x : List ℕ). length out < length (plaText (s .marks) x)) (q .one _ f) h; sure = λ e. refl }
+five-exactly {s} (WritesPla.written w f h) k q =
+    record { yes = λ e. clash e refl; sure = λ l. absurd (omega (arith, h, l, ap (λ (x : List ℕ). length (plaText (s .marks) x)) (q .one _ f))) }
+
+pub pla : Pla
+pla = record {
+  some = reads-pla-some mostMarks entries;
+  one = reads-pla-settled;
+  numbers = numbers;
+  leftmost = leftmost;
+  read = read;
+  entry-read = entry-read;
+  refused = λ c. left (demand-1 .every-call (Made.vault-read-pla c));
+  written = written;
+  entry-written = entry-written;
+  seven = seven;
+  five = five-exactly;
+}
