@@ -1,8 +1,8 @@
 -- The counting form of a fitting list: how many boxes contain a combination. Of boxes that share nothing at most one does, so that what they
 -- hold of a combination, added up over the list, is what it has where it is covered.
 use mathlib.Core.Path.{_≡_, refl, sym, _∙_}
-use mathlib.Core.Bool.{Bool, true, false, false≢true}
-use mathlib.Core.List.{List, [], _∷_}
+use mathlib.Core.Bool.{Bool, true, false, _||_, false≢true}
+use mathlib.Core.List.{List, [], _∷_, _++_}
 use Prim.Native.Nat.{ℕ, _+_, _^_, _≤_}
 use native.Mathlib.Omega.{arith}
 use Rattle.boxes.specs.Sums.{sum, sumOver, only}
@@ -30,6 +30,12 @@ module _ (m : ℕ) where
   pub covered-out : (b : ℕ) (l : List ℕ) (c : ℕ) → contains m b c ≡ false → covered m (b ∷ l) c ≡ covered m l c
   unfolding covered
   covered-out b l c e = rw e
+
+  -- one box more covers its own combinations, and no more
+  pub covered-last : (l : List ℕ) (b c : ℕ) → covered m (l ++ b ∷ []) c ≡ (covered m l c || contains m b c)
+  unfolding covered
+  covered-last [] b c = if (contains m b c) (λ e. rw e) (λ e. rw e)
+  covered-last (a ∷ l) b c = if (contains m a c) (λ e. rw e) (λ e. rw (e, covered-last l b c))
 
   pub times-in : (b : ℕ) (l : List ℕ) (c : ℕ) → contains m b c ≡ true → times m (b ∷ l) c ≡ 1 + times m l c
   unfolding times sumOver

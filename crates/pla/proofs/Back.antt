@@ -4,16 +4,17 @@ use mathlib.Core.Path.{_≡_, refl, sym, ap, subst, fun-ext, _∙_}
 use mathlib.Core.Bool.{Bool, true, false, not, cond, _&&_, _||_}
 use mathlib.Core.List.{List, [], _∷_, _++_, append-assoc, append-nil}
 use native.Mathlib.Omega.{arith}
-use lib.Dec.{eqb, leb, ltb}
+use lib.Dec.{eqb, ltb}
 use lib.ListN.{length, getD}
-use borrow.Author.Tests.{eq-eqb, ne-eqb, lt-ltb, leb-true}
+use borrow.Author.Tests.{eq-eqb, ne-eqb, lt-ltb}
 use Rattle.ground.specs.Texts.{ascii}
-use Rattle.ground.proofs.Cases.{if, clash, digit, and-left}
+use Rattle.ground.proofs.Cases.{if, clash, digit}
 use Rattle.print.specs.Texts.{decimal, sign, pattern}
 use Rattle.print.proofs.Digits.{pattern-length, pattern-sign}
 use Rattle.clock.proofs.ReadsBack.{decimal-numeral, decimal-digit}
 use Rattle.lists.specs.Lists.{Boxes, covered, Fits}
 use Rattle.sheet.specs.Limits.{marksOk}
+use Rattle.sheet.proofs.Tests.{some-marks}
 use Rattle.sheet.specs.Record.{Record}
 use Rattle.stored.specs.Fields.{Outcome, good, refused}
 use Rattle.pla.specs.Texts.{betweenFrom, isNewline, linesOf, beforeComment, isGap, filled, wordsOf}
@@ -157,10 +158,6 @@ text-lines m k c =
     ∙ append-assoc (((ascii ".i " ++ decimal m) ++ ascii "\n.o 1\n.p ") ++ decimal k) (ascii "\n") (c ++ ascii ".e\n")
     ∙ append-assoc ((ascii ".i " ++ decimal m) ++ ascii "\n.o 1\n.p ") (decimal k) (10 ∷ (c ++ ascii ".e\n"))
     ∙ append-assoc (ascii ".i " ++ decimal m) (ascii "\n.o 1\n.p ") (decimal k ++ 10 ∷ (c ++ ascii ".e\n"))
-
-some-marks : (most m : ℕ) → marksOk most m ≡ true → 0 < m
-unfolding marksOk
-some-marks most m e = leb-true 1 m (and-left (leb 1 m) (leb m most) e)
 
 covers-class : {m : ℕ} {class : ℕ → Bool} {l : List ℕ} → Fits m class class l → covered m l ≡ class
 covers-class {m} {class} {l} f = fun-ext (λ c. if (class c)

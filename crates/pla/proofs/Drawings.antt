@@ -14,6 +14,7 @@ use Rattle.ground.proofs.Cases.{if, clash, and-left, and-right}
 use Rattle.boxes.specs.Boxes.{contains}
 use Rattle.boxes.proofs.Boxes.{contains-combination}
 use Rattle.lists.specs.Lists.{covered}
+use Rattle.lists.proofs.Count.{covered-last}
 use Rattle.sheet.specs.Limits.{marksOk}
 use Rattle.sheet.specs.Record.{Record}
 use Rattle.stored.specs.Fields.{Outcome, good, refused}
@@ -22,12 +23,7 @@ use Rattle.pla.specs.Sayings.{Saying, blank, inputs, output, count, cube
 use Rattle.pla.specs.Reading.{Count, uncounted, counted, isCounted, Said, nothingSaid, drawnBy, agreed, comesTo, Next, on, stop, judge, Run, over, unreadable, stopped, taken, PlaSays, Drawn, here, later}
 use Rattle.pla.proofs.Sayings.{says-one}
 
--- one box more covers its own combinations, and no more
-
-pub covered-last : (m : ℕ) (l : List ℕ) (b c : ℕ) → covered m (l ++ b ∷ []) c ≡ (covered m l c || contains m b c)
-unfolding covered
-covered-last m [] b c = if (contains m b c) (λ e. rw e) (λ e. rw e)
-covered-last m (a ∷ l) b c = if (contains m a c) (λ e. rw e) (λ e. rw (e, covered-last m l b c))
+-- a disjunction that holds
 
 or-left : (x y : Bool) → x ≡ true → (x || y) ≡ true
 or-left x y e = rw e

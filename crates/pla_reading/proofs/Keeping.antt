@@ -11,19 +11,19 @@ use borrow.Author.Tests.{eq-eqb, ne-eqb, lt-ltb, le-ltb, lt-leb}
 use Rattle.ground.proofs.Cases.{clash, below-or}
 use Rattle.boxes.specs.Boxes.{contains}
 use Rattle.lists.specs.Lists.{covered}
-use Rattle.sets.specs.Sets.{has, valueAt}
+use Rattle.lists.proofs.Count.{covered-last}
+use Rattle.sets.specs.Sets.{has, valueAt, AllSets}
 use Rattle.sets.proofs.Bits.{has-zero, has-or}
 use Rattle.sheet.specs.Limits.{mostMarks, marksOk}
 use Rattle.sheet.proofs.Tests.{marks-most}
 use Rattle.stored.specs.Fields.{refused}
 use Rattle.pla.specs.Sayings.{Saying, blank, inputs, output, count, cube, end}
 use Rattle.pla.specs.Reading.{Count, uncounted, counted, isCounted, Said as Saids, nothingSaid, on, stop, judge}
-use Rattle.pla.proofs.Drawings.{covered-last}
 use Rattle.pla_lines.specs.Parts.{capped}
 use Rattle.pla_reading.specs.declared.said.Said.{Said}
 use Rattle.pla_reading.specs.declared.said.Next.{Next}
 use Rattle.pla_reading.specs.declared.said.Next.the-variants.{On, Refused}
-use Rattle.pla_reading.specs.Parts.{Tabled, KeepsCount, Keeps, Leads, goes, stops}
+use Rattle.pla_reading.specs.Parts.{KeepsCount, Keeps, Leads, goes, stops}
 
 nothing-covered : (m c : ℕ) → covered m [] c ≡ false
 unfolding covered
@@ -160,7 +160,7 @@ module _ (s : Saids) (k : Said) (at : ℕ) (kept : Keeps s k) where
       early : (size : ℕ) → judge mostMarks size s at (cube b) ≡ stop (refused 10 at)
       early size = rw (sym (kept .output) ∙ e)
 
-  pub cube-kept : (sets : List ℕ) → Tabled sets → (b : ℕ) → b < 3 ^ k .inputs → k .output ≡ true
+  pub cube-kept : (sets : List ℕ) → AllSets sets → (b : ℕ) → b < 3 ^ k .inputs → k .output ≡ true
       → Leads s at (cube b) (On (record { inputs = k .inputs; output = k .output; counted = k .counted; count = k .count; place = k .place; cubes = k .cubes + 1; class = bitOr (k .class) (valueAt sets b) }))
   cube-kept sets table b l e = goes right fewer (record {
     inputs = kept .inputs;

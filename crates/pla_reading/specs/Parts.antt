@@ -5,7 +5,7 @@ use mathlib.Core.Bool.{Bool, true, false}
 use mathlib.Core.List.{List, []}
 use lib.ListN.{length}
 use Rattle.lists.specs.Lists.{covered}
-use Rattle.sets.specs.Sets.{has, Sets}
+use Rattle.sets.specs.Sets.{has}
 use Rattle.sheet.specs.Limits.{mostMarks, entries}
 use Rattle.stored.specs.Fields.{refused}
 use Rattle.stored.specs.Answers.{readOf}
@@ -18,10 +18,6 @@ use Rattle.pla_lines.specs.declared.Heard.the-variants.{Blank, Inputs, Output, 
 use Rattle.pla_reading.specs.declared.said.Said.{Said}
 use Rattle.pla_reading.specs.declared.said.Next.{Next}
 use Rattle.pla_reading.specs.declared.said.Next.the-variants.{On, End as Ends, Refused}
-
--- the table has the set of each box
-abbrev pub Tabled : List ℕ → Type 0
-Tabled xs = (m : ℕ) → m ≤ mostMarks → Sets m xs
 
 -- the `.p` line as it is kept
 abbrev pub KeepsCount : Count → Bool → ℕ → ℕ → Type 0

@@ -1,18 +1,17 @@
 // Reading a PLA text of one output: any bytes, of any length. Each line is heard, and judged by what the lines before it have said.
 ghost use Rattle.sheet.specs.Limits.{mostMarks, entries};
 ghost use Rattle.pla.specs.Answers.{ReadsPla};
-ghost use Rattle.pla_reading.specs.Parts.{Tabled};
+ghost use Rattle.sets.specs.Sets.{AllSets};
 
 mod said;
 
 use said::Next;
 use said::Said;
-use sets::SETS;
 use stored::Read;
 
 // Reads a text with the table of the boxes' sets at hand: a constant table would be laid out anew for each cube.
 fn read_by(text: &[u8], sets: &[u32; 243]) -> Read
-    requires { ⌜ Tabled (now sets) ⌝ }
+    requires { ⌜ AllSets (now sets) ⌝ }
     ensures { λ r. ⌜ ReadsPla mostMarks entries (now (text .entry)) r ⌝ }
 {
     let mut said = Said::nothing();
@@ -41,6 +40,6 @@ fn read_by(text: &[u8], sets: &[u32; 243]) -> Read
 pub fn read(text: &[u8]) -> Read
     ensures { λ r. ⌜ ReadsPla mostMarks entries (now (text .entry)) r ⌝ }
 {
-    let sets = SETS;
+    let sets = sets::sets();
     read_by(text, &sets)
 }

@@ -3,10 +3,11 @@ ghost use mathlib.Core.Path.{_≡_};
 ghost use mathlib.Core.Bool.{not, _&&_};
 ghost use Prim.Native.Nat.{_+_, _<_, _≤_, _^_};
 ghost use lib.Dec.{eqb};
+ghost use Rattle.sets.specs.Sets.{AllSets};
 ghost use Rattle.sheet.specs.Limits.{mostMarks};
 ghost use Rattle.pla.specs.Reading.{nothingSaid};
 ghost use Rattle.pla.specs.Sayings.{inputs, output, count, cube};
-ghost use Rattle.pla_reading.specs.Parts.{Tabled, Keeps, Hearable, Makes, MakesOf, Judged, Comes};
+ghost use Rattle.pla_reading.specs.Parts.{Keeps, Hearable, Makes, MakesOf, Judged, Comes};
 use pla_lines::Heard;
 use sheet::Sheet;
 use stored::Read;
@@ -90,7 +91,7 @@ impl Said {
     fn with_cube(mut self, at: usize, b: usize, sets: &[u32; 243]) -> Next
         requires { ⌜ (self .inputs ≤ mostMarks) × (b < 3 ^ self .inputs) ⌝ }
         requires { ⌜ self .cubes + 1 < 2 ^ 64 ⌝ }
-        requires { ⌜ Tabled (now sets) ⌝ }
+        requires { ⌜ AllSets (now sets) ⌝ }
         ensures { λ r. ⌜ Makes self at (cube b) r ⌝ }
     {
         if !self.output {
@@ -104,7 +105,7 @@ impl Said {
     // The line at an offset.
     pub fn judged(self, at: usize, heard: Heard, sets: &[u32; 243]) -> Next
         requires { ⌜ Hearable self heard ⌝ }
-        requires { ⌜ Tabled (now sets) ⌝ }
+        requires { ⌜ AllSets (now sets) ⌝ }
         ensures { λ r. ⌜ Judged self at heard r ⌝ }
     {
         match heard {

@@ -10,7 +10,7 @@ use lib.ListN.{getD, List·getD-append}
 use lib.Seq.{getD-at}
 use Rattle.ground.proofs.Cases.{digit}
 use Rattle.print.specs.Texts.{sign, pattern}
-use Rattle.print.proofs.Digits.{pattern-length}
+use Rattle.print.proofs.Digits.{pattern-length, pattern-sign}
 
 -- the digit of a sign
 abbrev signDigit : ℕ → ℕ
@@ -41,16 +41,12 @@ pattern-box (suc m) b l =
     ∙ omega arith
 
 -- a pattern does not begin with a point
-sign-no-point : (d : ℕ) → d < 3 → sign d ≡ 46 → ⊥
-sign-no-point d l = digit (λ (x : ℕ). sign x ≡ 46 → ⊥) d l (λ e. omega arith) (λ e. omega arith) (λ e. omega arith)
-
 pub no-point : (m b : ℕ) → getD (pattern m b) 0 0 ≡ 46 → ⊥
 unfolding pattern
 no-point zero b e = omega arith
-no-point (suc zero) b e = sign-no-point (b % 3) (omega arith) e
-no-point (suc (suc m)) b e =
-    no-point (suc m) (b / 3)
-    (sym (List·getD-append (pattern (suc m) (b / 3)) (sign (b % 3) ∷ []) 0 0 (omega (arith, pattern-length (suc m) (b / 3)))) ∙ e)
+no-point (suc m) b e =
+    let d = pattern-sign (suc m) b 0 (omega arith) in
+    digit (λ (x : ℕ). sign x ≡ 46 → ⊥) (d .0) (d .1) (λ q. omega arith) (λ q. omega arith) (λ q. omega arith) (sym (d .2) ∙ e)
 
 -- highest mark first: mark i stands i places before the last
 pub pattern-mark : (m b i : ℕ) → i < m → getD (pattern m b) (m - 1 - i) 0 ≡ sign (b / 3 ^ i % 3)

@@ -7,8 +7,6 @@ ghost use Rattle.lists.specs.Lists.{lowestOf};
 ghost use Rattle.sets.specs.Sets.{setMarks, has, valueAt, Sets, Singles};
 ghost use Rattle.seek.specs.Answer.{Askable, Sought};
 ghost use Rattle.seek.specs.Steps.{Reached, Stage, Node, Certified, weight};
-use sets::SETS;
-use sets::SINGLES;
 
 // What is sought: the number of boxes, which stand at the front of the area; or nothing, where no list fits.
 pub enum Found {
@@ -215,8 +213,8 @@ pub fn shortest(m: usize, need: u32, room: u32, area: &mut [u8]) -> Found
     requires { ⌜ Askable m need (now area) ⌝ }
     ensures { λ r. ⌜ Sought m (has need) (has room) r (now (area .exit)) ⌝ }
 {
-    let sets = SETS;
-    let singles = SINGLES;
+    let sets = sets::sets();
+    let singles = sets::singles();
     let known = weighed(m, &sets, &singles, need, room);
     let costs = known.costs;
     let plus = known.plus;

@@ -12,8 +12,6 @@ use lib.Dec.{eqb}
 use lib.Pow.{shr-shr}
 use borrow.Author.Tests.{eqb-true, eqb-false, eq-eqb, ne-eqb}
 use Rattle.boxes.specs.Sums.{only}
-use Rattle.boxes.specs.Boxes.{contains}
-use Rattle.boxes.proofs.Boxes.{contains-combination}
 use Rattle.boxes.proofs.Masks.{other-rest, other-mark}
 use Rattle.ground.proofs.Cases.{if, clash, below-or, mark}
 use Rattle.sets.specs.Sets.{has}
@@ -122,20 +120,9 @@ bits-same = bin-ind (λ (a : ℕ). (b : ℕ) → ((c : ℕ) → has a c ≡ has 
     let r : a % 2 ≡ b % 2 = low-same (a % 2) (b % 2) (omega arith) (omega arith) (h 0) in
     omega arith)
 
--- a set whose combinations are below n is a number of n bits
-pub bits-small : (n u : ℕ) → ((c : ℕ) → n ≤ c → has u c ≡ false) → u < 2 ^ n
-unfolding has
-bits-small zero u h = omega (arith, no-bits u (λ c. h c zero-le))
-bits-small (suc n) u h = omega (arith, pow-suc 2 n, bits-small n (u / 2) (λ c l. h (suc c) (omega arith)))
-
 -- what a bit, turned, tells
 pub has-out : (c u : ℕ) → 1 - u / 2 ^ c % 2 ≡ only (not (has u c)) 1
 has-out c u = mark (λ (v : ℕ). 1 - v ≡ only (not (eqb v 1)) 1) (u / 2 ^ c % 2) (omega arith) refl refl ∙ ap (λ (t : Bool). only (not t) 1) (sym (has-shr c u))
-
--- ---- the set s of the box b
-pub set-small : (m b s : ℕ) → ((c : ℕ) → has s c ≡ contains m b c) → s < 2 ^ (2 ^ m)
-set-small m b s bits = bits-small (2 ^ m) s
-    (λ c l. bits c ∙ if (contains m b c) (λ t. absurd (omega (arith, contains-combination m b c t))) (λ t. t))
 
 -- ---- the lowest bit
 even-step : (k u : ℕ) → u % 2 < 1 → trailingZeros (suc k) u ≡ suc (trailingZeros k (u / 2))

@@ -2,7 +2,7 @@
 use mathlib.Core.Path.{_≡_}
 use mathlib.Core.Bool.{Bool, not}
 use mathlib.Core.List.{List}
-use Prim.Native.Nat.{ℕ, zero, suc, _/_, _%_, _^_, _<_}
+use Prim.Native.Nat.{ℕ, zero, suc, _/_, _%_, _^_, _≤_, _<_}
 use lib.Dec.{eqb}
 use lib.ListN.{length, getD}
 use Rattle.boxes.specs.Sums.{only}
@@ -28,6 +28,14 @@ Sets m xs = (b : ℕ) → b < 3 ^ m → (valueAt xs b < 2 ^ 32) × ((c : ℕ) �
 -- the table holds the box of each single combination over m marks
 abbrev pub Singles : ℕ → List ℕ → Type 0
 Singles m xs = (c : ℕ) → c < 2 ^ m → valueAt xs c ≡ single m c
+
+-- the same, for every number of marks that a set can have
+
+abbrev pub AllSets : List ℕ → Type 0
+AllSets xs = (m : ℕ) → m ≤ setMarks → Sets m xs
+
+abbrev pub AllSingles : List ℕ → Type 0
+AllSingles xs = (m : ℕ) → m ≤ setMarks → Singles m xs
 
 -- the table holds what each combination adds to the outside counts of the class u: 0 where the set has it, and else 1
 abbrev pub Outs : ℕ → List ℕ → Type 0

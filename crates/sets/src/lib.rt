@@ -1,15 +1,18 @@
 // Sets of combinations as numbers, a bit for each combination: bit c is on exactly if the combination c is in the set.
-ghost use mathlib.Core.Path.{_≡_};
-ghost use Prim.Native.Nat.{_^_, _≤_, _<_};
-ghost use Rattle.boxes.specs.Boxes.{contains};
-ghost use Rattle.sets.specs.Sets.{setMarks, has, Outs};
+ghost use Rattle.sets.specs.Sets.{AllSets, AllSingles, Outs};
 
-// The combinations of the box b.
-pub fn set_of(m: usize, b: usize) -> u32
-    requires { ⌜ (m ≤ setMarks) × (b < 3 ^ m) ⌝ }
-    ensures { λ r. ⌜ (r < 2 ^ (2 ^ m)) × (has r ≡ contains m b) ⌝ }
+// The set of each box, by its number. A box below 3^m has the same combinations over any number of marks from m on.
+pub fn sets() -> [u32; 243]
+    ensures { λ r. ⌜ AllSets r ⌝ }
 {
-    SETS[b]
+    SETS
+}
+
+// The box of each single combination.
+pub fn singles() -> [usize; 32]
+    ensures { λ r. ⌜ AllSingles r ⌝ }
+{
+    SINGLES
 }
 
 // What each combination adds to the outside counts of a class: 0 where the class has it, and else 1.
@@ -23,10 +26,8 @@ pub fn outs_of(class: u32) -> [u32; 32]
     outs
 }
 
-// Two tables over five marks. A box below 3^m has the same combinations over any number of marks from m on.
-
-// The combinations of each box, a bit for each.
-pub const SETS: [u32; 243] = [
+// The combinations of each box over five marks, a bit for each.
+const SETS: [u32; 243] = [
     1,
     2,
     3,
@@ -273,7 +274,7 @@ pub const SETS: [u32; 243] = [
 ];
 
 // The marks of each combination as the digits of a box: the box of that single combination.
-pub const SINGLES: [usize; 32] = [
+const SINGLES: [usize; 32] = [
     0,
     1,
     3,

@@ -29,6 +29,10 @@ pub marks-most : (most m : ℕ) → marksOk most m ≡ true → m ≤ most
 unfolding marksOk
 marks-most most m e = leb-true m most (and-right (leb 1 m) (leb m most) e)
 
+pub some-marks : (most m : ℕ) → marksOk most m ≡ true → 1 ≤ m
+unfolding marksOk
+some-marks most m e = leb-true 1 m (and-left (leb 1 m) (leb m most) e)
+
 -- a sheet's tables have an entry for each box
 pub boxes-fit : (m : ℕ) → marksOk mostMarks m ≡ true → 3 ^ m ≤ entries
 boxes-fit m e = pow-le-pow-right {n = 3} (omega arith) {i = m} {j = 5} (marks-most mostMarks m e)

@@ -8,7 +8,6 @@ use borrow.Author.Needs.{needs}
 use Rattle.lists.specs.Lists.{AtLeast}
 use Rattle.sets.specs.Sets.{has}
 use Rattle.sets.proofs.Bits.{has-small}
-use Rattle.sets.proofs.Computed.{sets-hold, singles-hold}
 use Rattle.seek.proofs.Turn.{reached-yes, reached-no}
 use Rattle.seek.proofs.Settled.{none-fits}
 use Rattle.seek.proofs.shortest.Statement.{statement}
@@ -22,27 +21,27 @@ abbrev μ-loop : tie.MeasureT-loop
 μ-loop m need room area₀ sets singles costs plus minus n k₀ area k = n + 1 - k
 
 weighed-requires : tie.Need-weighed-requires Inv-loop μ-loop
-weighed-requires c κs = let s = c .before .before .before in (s .pre .0, sets-hold (s .args .m) (s .pre .0))
+weighed-requires c κs = let s = c .before .before .before .before .before in (s .pre .0, c .before .before .before .sets .ensures (s .args .m) (s .pre .0))
 
 power2-requires : tie.Need-power2-requires Inv-loop μ-loop
-power2-requires c κs = let s = c .before .before .before .before .before in omega (arith, s .pre .0)
+power2-requires c κs = let s = c .before .before .before .before .before .before .before in omega (arith, s .pre .0)
 
 loop-holds : tie.Need-loop-holds Inv-loop μ-loop
 loop-holds c =
-    let s = c .before .before .before .before .before .before in
+    let s = c .before .before .before .before .before .before .before .before in
     (refl, omega arith, c .power2 .ensures .0, omega (arith, c .power2 .ensures .0, pow-mono (s .pre .0)), λ l f. zero-le)
 
 of-size-requires : tie.Need-of-size-requires Inv-loop μ-loop
 of-size-requires c κs =
-    let s = c .before .before .before .before .before .before .before .before .before .before .before .before in
+    let s = c .before .before .before .before .before .before .before .before .before .before .before .before .before .before in
     let l = c .before .before .before .before .before .loop in
     let lt = c .before .before .before .before .loop-test .taken in
     let w = c .before .before .before .before .before .before .before .before .weighed .ensures in (
       record {
         marks = s .pre .0;
         small = s .pre .1;
-        of-boxes = sets-hold (s .args .m) (s .pre .0);
-        of-singles = singles-hold (s .args .m) (s .pre .0);
+        of-boxes = c .before .before .before .before .before .before .before .before .before .before .before .before .sets .ensures (s .args .m) (s .pre .0);
+        of-singles = c .before .before .before .before .before .before .before .before .before .before .before .singles .ensures (s .args .m) (s .pre .0);
         least = l .inv .4;
       },
       (w, (omega (arith, l .inv .3, lt), omega (arith, s .pre .2, l .inv .0, l .inv .2, lt))),
@@ -53,7 +52,7 @@ same-length c = c .before .before .before .of-size .kept .1 .1 .1 .1 .1 .1 .1 .1
 
 returns : tie.Need-returns Inv-loop μ-loop
 returns c =
-    let s = c .before .before .before .before .before .before .before .before .before .before .before .before .before .before .before .before in
+    let s = c .before .before .before .before .before .before .before .before .before .before .before .before .before .before .before .before .before .before in
     let l = c .before .before .before .before .before .before .before .before .before .loop in
     let lt = c .before .before .before .before .before .before .before .before .loop-test .taken in
     let q = c .before .before .before .of-size in (
@@ -75,12 +74,12 @@ loop-again c =
 
 returns-2 : tie.Need-returns-2 Inv-loop μ-loop
 returns-2 c =
-    let s = c .before .before .before .before .before .before .before .before in
+    let s = c .before .before .before .before .before .before .before .before .before .before in
     let l = c .before .loop in
     none-fits (s .args .m) (has (s .args .need)) (has (s .args .room)) (l .k) (has-small (s .args .m) (s .args .need) (s .pre .1)) (l .inv .4)
     (omega (arith, c .loop-test .left, l .inv .2))
 
 pub shortest-spec : {M : Type 1} → statement M
 shortest-spec = tie.close (tie.spec
-    Inv-loop μ-loop weighed-requires power2-requires loop-holds of-size-requires same-length returns
+    Inv-loop μ-loop (λ c κs. search needs) (λ c κs. search needs) weighed-requires power2-requires loop-holds of-size-requires same-length returns
     (λ c. omega arith) (λ c. omega arith) loop-again (λ c. search needs) returns-2)
