@@ -10,7 +10,7 @@ use lib.Dec.{eqb, ltb}
 use lib.ListN.{length}
 use borrow.Author.Tests.{ltb-true, eqb-true}
 use Rattle.ground.specs.Decides.{Decides}
-use Rattle.ground.proofs.Cases.{if, clash, and-left, and-right}
+use Rattle.ground.proofs.Cases.{if, clash, and-left}
 use Rattle.boxes.specs.Boxes.{contains}
 use Rattle.boxes.proofs.Boxes.{contains-combination}
 use Rattle.lists.specs.Lists.{covered}
@@ -20,7 +20,7 @@ use Rattle.sheet.specs.Record.{Record}
 use Rattle.stored.specs.Fields.{Outcome, good, refused}
 use Rattle.pla.specs.Texts.{wordsOf, linesOf}
 use Rattle.pla.specs.Sayings.{Saying, blank, inputs, output, count, cube, end, Says, no-word, dot-i, dot-o, dot-p, drawn, dot-e}
-use Rattle.pla.specs.Reading.{Count, uncounted, counted, isCounted, Said, nothingSaid, drawnBy, agreed, comesTo, Next, on, stop, judge, Run, over, unreadable, stopped, taken, PlaSays, Drawn, here, later}
+use Rattle.pla.specs.Reading.{Count, uncounted, counted, isCounted, Said, nothingSaid, drawnBy, agreed, comesTo, on, stop, judge, Run, over, unreadable, stopped, taken, PlaSays, Drawn, here, later}
 use Rattle.pla.proofs.Sayings.{says-one}
 
 -- a disjunction that holds
