@@ -1,13 +1,10 @@
 -- What the contract of `list` says of the list it gives, and what follows of every first shortest list.
 use Prim.Native.Nat.{ℕ, suc, _-_, _^_, _≤_}
 use mathlib.Core.Path.{_≡_, refl, sym, _∙_, ap, subst, transport}
-use mathlib.Core.Bool.{Bool, true}
+use mathlib.Core.Bool.{Bool}
 use mathlib.Core.List.{List}
 use native.Mathlib.Omega.{arith}
-use lib.Dec.{leb}
 use lib.ListN.{length}
-use borrow.Author.Tests.{leb-true}
-use Rattle.ground.proofs.Cases.{and-left}
 use Rattle.boxes.specs.Sums.{sumOver}
 use Rattle.tables.specs.Tables.{entry}
 use Rattle.lists.specs.Lists.{Small, FirstShortest}
@@ -15,7 +12,8 @@ use Rattle.lists.proofs.Class.{rising-same}
 use Rattle.lists.proofs.Exist.{at-most-half}
 use Rattle.lists.proofs.First.{unique}
 use Rattle.lists.proofs.Pottosin.{fits-independent, first-smallest}
-use Rattle.sheet.specs.Limits.{mostMarks, marksOk}
+use Rattle.sheet.specs.Limits.{mostMarks}
+use Rattle.sheet.proofs.Tests.{some-marks}
 use Rattle.sheet.specs.Sound.{ClassReady, recordOf}
 use Rattle.sheet.specs.declared.Sheet.{Sheet}
 use Rattle.sheet.specs.declared.Value.{Value}
@@ -25,10 +23,6 @@ use Rattle.listing.proofs.Lines.{kept-total}
 use Rattle.vault.specs.Entries.{Lends}
 use Rattle.vault.specs.declared.Reply.{Reply}
 use Rattle.demands.specs.Demand2.{Lines, Printed, PrintedIn, Demand2}
-
-some-marks : (most m : ℕ) → marksOk most m ≡ true → 1 ≤ m
-unfolding marksOk
-some-marks most m e = leb-true 1 m (and-left (leb 1 m) _ e)
 
 lines : (m : ℕ) (class : ℕ → Bool) (l : List ℕ) → 1 ≤ m → Small m class → FirstShortest m class class l → Lines m class l
 lines m class l some small f =

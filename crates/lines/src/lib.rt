@@ -1,7 +1,5 @@
 // The desk's lines: what the bytes of a line ask for. The reader takes the verb and hands on the part of the text behind it.
 ghost use Prim.Native.Nat.{_≤_};
-ghost use Rattle.ground.specs.Decides.{Decides};
-ghost use Rattle.ground.specs.Texts.{Begins};
 ghost use Rattle.machine.specs.AtHand.{rowOf, LineFits};
 ghost use Rattle.lines.specs.Words.{Opens, Asked, RowOpens, RowAsks};
 ghost use Rattle.lines.specs.Parts.{Patterned, Amounts};

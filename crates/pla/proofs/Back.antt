@@ -1,7 +1,7 @@
 -- Reading what was written: the lines of the text one by one. No byte of a word is below 45, where newline, tab, space and `#` are.
-use Prim.Native.Nat.{ℕ, zero, suc, _+_, _^_, _≤_, _<_}
+use Prim.Native.Nat.{ℕ, zero, suc, _+_, _≤_, _<_}
 use mathlib.Core.Path.{_≡_, refl, sym, ap, subst, fun-ext, _∙_}
-use mathlib.Core.Bool.{Bool, true, false, not, cond, _&&_, _||_}
+use mathlib.Core.Bool.{Bool, true, false, not}
 use mathlib.Core.List.{List, [], _∷_, _++_, append-assoc, append-nil}
 use native.Mathlib.Omega.{arith}
 use lib.Dec.{eqb, ltb}
@@ -15,11 +15,10 @@ use Rattle.clock.proofs.ReadsBack.{decimal-numeral, decimal-digit}
 use Rattle.lists.specs.Lists.{Boxes, covered, Fits}
 use Rattle.sheet.specs.Limits.{marksOk}
 use Rattle.sheet.proofs.Tests.{some-marks}
-use Rattle.sheet.specs.Record.{Record}
-use Rattle.stored.specs.Fields.{Outcome, good, refused}
+use Rattle.stored.specs.Fields.{Outcome, good}
 use Rattle.pla.specs.Texts.{betweenFrom, isNewline, linesOf, beforeComment, isGap, filled, wordsOf}
 use Rattle.pla.specs.Sayings.{Saying, inputs, output, count, cube, end, Says, dot-i, dot-o, dot-p, drawn, dot-e}
-use Rattle.pla.specs.Reading.{Count, uncounted, counted, Said, nothingSaid, drawnBy, comesTo, on, stop, judge, Run, stopped, taken, PlaSays}
+use Rattle.pla.specs.Reading.{Count, uncounted, counted, Said, nothingSaid, comesTo, on, stop, judge, Run, stopped, taken, PlaSays}
 use Rattle.pla.specs.Writing.{cubeLines, plaText}
 
 -- no byte of the text passes the test

@@ -1,6 +1,6 @@
 -- A line says one thing at most, which can be worked out from its words (`guess`): so whether it says anything is decided by that one.
-use Prim.Native.Nat.{ℕ, _^_, _≤_, _<_}
-use mathlib.Core.Path.{_≡_, refl, sym, ap, subst, _∙_}
+use Prim.Native.Nat.{ℕ, _^_, _≤_}
+use mathlib.Core.Path.{_≡_, sym, ap, subst, _∙_}
 use mathlib.Core.Bool.{cond}
 use mathlib.Core.List.{List, [], _∷_, cons≢nil, List-discrete}
 use native.Mathlib.Decide.{ℕ-discrete}

@@ -1,5 +1,5 @@
 -- What is heard of a line, by the number of its words and, where there are two, by the first.
-use Prim.Native.Nat.{ℕ, zero, suc, _^_, _≤_, _<_}
+use Prim.Native.Nat.{ℕ, zero, suc, _^_, _<_}
 use mathlib.Core.Path.{_≡_, refl, sym, ap, _∙_}
 use mathlib.Core.List.{List, [], _∷_}
 use native.Mathlib.Omega.{arith}
@@ -8,23 +8,11 @@ use Rattle.ground.specs.Texts.{ascii}
 use Rattle.ground.proofs.Cases.{digit}
 use Rattle.print.specs.Texts.{decimal, sign, pattern}
 use Rattle.print.proofs.Digits.{pattern-length, pattern-sign}
-use Rattle.pla.specs.Texts.{betweenFrom, beforeComment, filled, wordsOf}
-use Rattle.pla.specs.Sayings.{Saying, blank, Says, no-word, dot-i, dot-o, dot-p, drawn, dot-e}
+use Rattle.pla.specs.Sayings.{Saying, Says, no-word, dot-i, dot-o, dot-p, drawn, dot-e}
 use Rattle.pla_lines.specs.declared.Heard.the-variants.{Blank, Inputs, Output, Count, Cube, End, Unreadable}
 use Rattle.pla_lines.specs.declared.sayings.Number.the-variants.{Is, NoNumber}
 use Rattle.pla_lines.specs.declared.sayings.Cube.the-variants.{Of, NoCube}
 use Rattle.pla_lines.specs.Parts.{Numbered, Boxed, Hears, said, unsaid}
-
--- a line that says something has a byte
-pub said-long : {m : ℕ} (line : List ℕ) {x : Saying} → Says m (wordsOf line) x → (x ≡ blank → ⊥) → 1 ≤ length line
-unfolding betweenFrom beforeComment filled
-said-long (b ∷ line) s other = omega arith
-said-long [] (no-word e) other = absurd (other refl)
-said-long [] (dot-i e) other = absurd (omega (arith, ap length e))
-said-long [] (dot-o e) other = absurd (omega (arith, ap length e))
-said-long [] (dot-p e) other = absurd (omega (arith, ap length e))
-said-long [] (drawn l e) other = absurd (omega (arith, ap length e))
-said-long [] (dot-e e) other = absurd (omega (arith, ap length e))
 
 -- what stands behind a word, told otherwise
 pub behind-word : {ws us vs : List (List ℕ)} {a : List ℕ} → ws ≡ a ∷ us → us ≡ vs → ws ≡ a ∷ vs

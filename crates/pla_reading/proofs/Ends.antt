@@ -5,9 +5,9 @@ use mathlib.Core.Bool.{Bool, true, false, not, _&&_, and-false}
 use mathlib.Core.List.{List}
 use native.Mathlib.Omega.{arith}
 use lib.Dec.{eqb, ltb}
-use lib.ListN.{length, replicate, length-replicate}
-use borrow.Author.Tests.{eqb-true, eqb-false, eq-eqb, ne-eqb, lt-ltb, le-ltb}
-use Rattle.ground.proofs.Cases.{if, clash, below-or, same-or}
+use lib.ListN.{length, replicate}
+use borrow.Author.Tests.{eq-eqb, ne-eqb, lt-ltb, le-ltb}
+use Rattle.ground.proofs.Cases.{if, clash, same-or}
 use Rattle.boxes.specs.Sums.{only}
 use Rattle.tables.specs.Tables.{entry}
 use Rattle.lists.specs.Lists.{covered}
@@ -17,9 +17,7 @@ use Rattle.sheet.specs.Record.{Record, outOf, sheetFrom, sheetOf}
 use Rattle.sheet.specs.Parts.{Addable}
 use Rattle.sheet.specs.declared.Sheet.{Sheet}
 use Rattle.sheet.proofs.Opening.{combinations-fit, same-entry, ones-addable, sheet-same}
-use Rattle.stored.specs.Fields.{Outcome, good, refused}
-use Rattle.stored.specs.Answers.{readOf}
-use Rattle.stored.specs.declared.Read.{Read}
+use Rattle.stored.specs.Fields.{good, refused}
 use Rattle.pla.specs.Reading.{Count, uncounted, counted, Said as Saids, drawnBy, agreed, comesTo}
 use Rattle.pla_lines.specs.Parts.{capped}
 use Rattle.pla_reading.specs.declared.said.Said.{Said}

@@ -1,7 +1,7 @@
 -- One line after another: what is kept leads on to the lines that are left, as the run over the text does, and what stops it is the run's outcome.
 use Prim.Native.Nat.{ℕ, _+_, _-_, _≤_, _<_}
 use mathlib.Core.Path.{_≡_, refl, sym, ap, ap₂, subst, _∙_}
-use mathlib.Core.Bool.{Bool, true, false, cond}
+use mathlib.Core.Bool.{cond}
 use mathlib.Core.List.{List, [], _∷_}
 use native.Mathlib.Omega.{arith}
 use lib.Dec.{leb}
@@ -20,7 +20,6 @@ use Rattle.pla.specs.Answers.{ReadsPla}
 use Rattle.pla_lines.specs.Lines.{firstLine, wordsIn}
 use Rattle.pla_lines.specs.Parts.{heardAs, Hears, said, unsaid}
 use Rattle.pla_lines.specs.declared.Heard.{Heard}
-use Rattle.pla_lines.specs.declared.Heard.the-variants.{Unreadable}
 use Rattle.pla_lines.proofs.FirstLine.{line-inside, lines-one, lines-first}
 use Rattle.pla_reading.specs.declared.said.Said.{Said}
 use Rattle.pla_reading.specs.declared.said.Next.{Next}

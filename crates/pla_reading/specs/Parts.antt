@@ -2,7 +2,7 @@
 use Prim.Native.Nat.{ℕ, _+_, _^_, _≤_, _<_}
 use mathlib.Core.Path.{_≡_}
 use mathlib.Core.Bool.{Bool, true, false}
-use mathlib.Core.List.{List, []}
+use mathlib.Core.List.{[]}
 use lib.ListN.{length}
 use Rattle.lists.specs.Lists.{covered}
 use Rattle.sets.specs.Sets.{has}

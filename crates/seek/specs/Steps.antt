@@ -1,5 +1,4 @@
 -- What the steps of the search ask and tell each other. None of it is in what the search promises.
-use mathlib.Core.Path.{_≡_}
 use mathlib.Core.Bool.{Bool, true, false}
 use mathlib.Core.List.{List}
 use Prim.Native.Nat.{ℕ, _+_, _*_, _^_, _<_, _≤_}

@@ -1,6 +1,5 @@
 -- Of texts of one length, the one that begins with the other is the other.
-use mathlib.Core.Path.{refl, sym, ap, subst}
-use mathlib.Core.List.{List}
+use mathlib.Core.Path.{sym, ap, subst}
 use borrow.Author.Needs.{needs}
 use borrow.Author.Tests.{ne-eqb}
 use lib.ListN.{length}

@@ -1,12 +1,11 @@
 -- The lines up to the offset are read (`Reached`); each line goes on, ends the reading, or is refused, as the laws of Lines say.
-use Prim.Native.Nat.{ℕ, _+_, _-_, _≤_, _<_}
-use mathlib.Core.Path.{_≡_, refl, sym, ap, subst, _∙_}
+use Prim.Native.Nat.{ℕ, _+_, _-_, _≤_}
+use mathlib.Core.Path.{_≡_, sym, ap, subst, _∙_}
 use mathlib.Core.List.{List}
 use native.Mathlib.Omega.{arith}
 use borrow.Author.Needs.{needs}
 use lib.ListN.{length, drop, length-drop}
 use Rattle.stored.specs.Fields.{refused}
-use Rattle.pla.specs.Reading.{comesTo}
 use Rattle.pla_lines.specs.Lines.{firstLine, wordsIn}
 use Rattle.pla_lines.specs.Parts.{Hears}
 use Rattle.pla_lines.proofs.Fronts.{from-drop}

@@ -1,5 +1,5 @@
 -- Each kind of line has its own function, whose promise is that part of `Judged`.
-use mathlib.Core.Path.{_≡_, refl, sym, subst}
+use mathlib.Core.Path.{refl, sym, subst}
 use native.Mathlib.Omega.{arith}
 use borrow.Author.Needs.{needs}
 use Rattle.pla_lines.specs.declared.Heard.{Heard}
