@@ -428,9 +428,12 @@ impl Tests {
         lines
     }
 
-    /// Lines exchanged, left out, twice, or others among them.
+    /// Lines exchanged, left out, twice, or others among them; where all are left out, there is nothing more to do.
     fn disorder(&mut self, lines: &mut Vec<Vec<u8>>) {
         let n = lines.len() as u64;
+        if n == 0 {
+            return;
+        }
         let i = self.r.below(n) as usize;
         let j = self.r.below(n) as usize;
         let odd = self.r.of(&ODD_LINES).as_bytes().to_vec();
