@@ -19,7 +19,7 @@ or-cases : (a e : Bool) → (a || e) ≡ true → (a ≡ false → e ≡ true)
 or-cases true e w f = clash refl f
 or-cases false e w f = w
 
-good-accepted : (r : Record) → Good r → (k : Call) → numberOf r k ≡ 0 → Good (accepted r k)
+pub good-accepted : (r : Record) → Good r → (k : Call) → numberOf r k ≡ 0 → Good (accepted r k)
 good-accepted r good (Enter c) z = record {
   marks = good .marks;
   class = λ x e. if (r .class x) (λ y. good .class x y) (λ n.
