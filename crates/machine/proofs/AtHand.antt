@@ -11,7 +11,7 @@ use lib.Seq.{take-suc-set, take-all, length-take-le, append-snoc, drop-cons}
 use borrow.Author.Tests.{le-leb, lt-leb, ltb-true, ltb-false, leb-false, eq-eqb, ne-eqb}
 use Rattle.ground.proofs.Cases.{if}
 use Rattle.machine.specs.Rows.{mostBytes, Row, whole, spoiled, judged}
-use Rattle.machine.specs.AtHand.{rowOf, empty, pushed, typedOn, typed, isNone, LineFits, cutOf}
+use Rattle.machine.specs.AtHand.{rowOf, empty, pushed, typedOn, typed, isNone, LineFits, cutOff, cutOf}
 use Rattle.machine.specs.declared.line.Line.{Line}
 use Rattle.machine.specs.declared.line.Cut.{Cut}
 
@@ -121,6 +121,9 @@ row-long l e = rw e
 pub row-short : (l : Line) → l .long ≡ false → rowOf l ≡ whole (take (l .len) (l .text))
 unfolding rowOf
 row-short l e = rw e
+
+pub cut-off-fits : {l m : Line} → m ≡ cutOff l → LineFits l → LineFits m
+cut-off-fits e f = subst LineFits (sym e) (record { text = f .text; len = f .len })
 
 -- a piece of which i bytes are taken, none of them a newline
 

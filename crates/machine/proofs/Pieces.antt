@@ -10,15 +10,16 @@ use lib.ListN.{length, take, drop, length-drop}
 use lib.Seq.{take-all, take-add}
 use borrow.Author.Tests.{eqb-true, eqb-false, ne-eqb}
 use Rattle.ground.proofs.Cases.{if, clash}
-use Rattle.ground.specs.Areas.{Wrote}
 use Rattle.ground.proofs.Areas.{wrote-none}
 use Rattle.machine.specs.Rows.{Row, spoiled, judged, rowsFrom, rows}
-use Rattle.machine.specs.Machine.{Machine, refusal, Onward, stopped, line, Output}
-use Rattle.machine.specs.Pieces.{Position, in-line, start, lineIn, Takes, none, byte, newline, Finishes, ended, cut-off, InPieces, done, piece, upToNewline, FedBy}
-use Rattle.machine.specs.AtHand.{typed, cutOf, cutOff}
+use Rattle.machine.specs.Machine.{Machine, Onward, stopped, line, Output}
+use Rattle.machine.specs.Pieces.{Position, in-line, start, lineIn, Takes, none, byte, newline, Finishes, ended, cut-off, InPieces, done, piece, upToNewline, FedBy, FinishedBy}
+use Rattle.machine.specs.Steps.{SteppedBy, StoppedBy}
+use Rattle.machine.specs.AtHand.{rowOf, typed, isNone, cutOff, cutOf}
 use Rattle.machine.specs.declared.line.Line.{Line}
 use Rattle.machine.specs.declared.line.Cut.{Cut}
-use Rattle.machine.proofs.AtHand.{typed-more, none-judged}
+use Rattle.machine.proofs.AtHand.{typed-more, typed-row, typed-number, none-judged, row-long}
+use Rattle.machine.proofs.Laid.{wrote-behind}
 
 rows-byte : (begun : List ℕ) (b : ℕ) (rest : List ℕ) → (b ≡ 10 → ⊥) → rowsFrom begun (b ∷ rest) ≡ rowsFrom (begun ++ b ∷ []) rest
 unfolding rowsFrom
@@ -130,16 +131,32 @@ module _ {M : Machine} {k : ℕ} {s : M .State} {begun a : List ℕ} {c : Cut} (
   pub fed-quiet : (out : List ℕ) → c .ended ≡ false → FedBy M (in-line k s begun) a out (c .used) 0 (in-line k s (g .whole)) out
   fed-quiet out e = record { used = g .used; said = []; takes = g .quiet e; laid = wrote-none out 0 }
 
-  pub fed-line : {t : M .State} {now out later : List ℕ} {w : ℕ} → c .ended ≡ true → M .step k s (judged (g .whole)) t now → Wrote out 0 now w later
-      → FedBy M (in-line k s begun) a out (c .used) w (in-line (k + 1) t []) later
-  fed-line {now = now} e t w = record { used = g .used; said = now; takes = g .over e t; laid = w }
+  pub fed-line : {S : Type 0} {held : M .State → S} {t : S} {out later : List ℕ} {w : ℕ} → c .ended ≡ true
+      → (e : SteppedBy M held (c .line .number) s (rowOf (c .line)) out t w later) → FedBy M (in-line k s begun) a out (c .used) w (in-line (k + 1) (e .state) []) later
+  fed-line h e = record {
+    used = g .used;
+    said = e .said;
+    takes = g .over h (rw (typed-row k (g .whole) (g .line), typed-number k (g .whole) (g .line)) at (e .step));
+    laid = e .laid;
+  }
 
--- the call at the end of the input, where a last line without newline is refused and changes nothing of what is printed then
-pub finishes-cut : {M : Machine} {k : ℕ} {s : M .State} (t : M .State) (begun text : List ℕ) → M .step k s spoiled t (refusal k 10) → M .stop s text → M .stop t text
-    → Finishes M (in-line k s begun) (cutOff k (judged begun) ++ text)
-unfolding judged
-finishes-cut t [] text e a b = ended a
-finishes-cut t (x ∷ begun) text e a b = rw (none-judged (x ∷ begun), ne-eqb (suc (length begun)) 0 (λ z. omega arith)) (cut-off e b)
+-- the call at the end of the input, with what the code knows of the line at hand
+module _ {M : Machine} {k : ℕ} {s : M .State} {l : Line} {out later : List ℕ} {w : ℕ} where
+  pub finish-none : (begun : List ℕ) → l ≡ typed k begun → isNone (rowOf l) ≡ true → StoppedBy M s out 0 w later → FinishedBy M (in-line k s begun) out w later
+  finish-none [] at n t = record { said = t .said; finishes = ended (t .stop); laid = t .laid }
+  finish-none (b ∷ begun) at n t =
+      let z = eqb-true (suc (length begun)) 0 (sym (none-judged (b ∷ begun)) ∙ ap isNone (sym (typed-row k (b ∷ begun) at)) ∙ n) in
+      absurd (omega arith)
+
+  pub finish-line : {S : Type 0} {held : M .State → S} {c : S} {m : Line} {o : List ℕ} {v : ℕ} (begun : List ℕ) → l ≡ typed k begun → isNone (rowOf l) ≡ false → m ≡ cutOff l
+      → (e : SteppedBy M held (m .number) s (rowOf m) out c v o) → length o ≡ length out → StoppedBy M (e .state) o v w later → length later ≡ length out
+      → FinishedBy M (in-line k s begun) out w later
+  finish-line [] at n is e f t h = absurd (eqb-false 0 0 (sym (none-judged []) ∙ ap isNone (sym (typed-row k [] at)) ∙ n) refl)
+  finish-line {m = m} (b ∷ begun) at n is e f t h = record {
+    said = e .said ++ t .said;
+    finishes = cut-off (rw (ap rowOf is ∙ row-long (cutOff l) refl, ap (λ (x : Line). x .number) is ∙ typed-number k (b ∷ begun) at) at (e .step)) (t .stop);
+    laid = wrote-behind (e .laid) (t .laid) f h;
+  }
 
 -- for a caller that goes on behind the call
 

@@ -6,7 +6,6 @@ use mathlib.Core.List.{List, [], _∷_}
 use lib.Dec.{eqb, ltb}
 use lib.ListN.{length, take, set, replicate}
 use Rattle.machine.specs.Rows.{mostBytes, Row, whole, spoiled}
-use Rattle.machine.specs.Machine.{refusal}
 use Rattle.machine.specs.declared.line.Line.{Line}
 use Rattle.machine.specs.declared.line.Cut.{Cut}
 
@@ -43,6 +42,10 @@ abbrev pub isNone : Row → Bool
 isNone spoiled = false
 isNone (whole l) = eqb (length l) 0
 
+-- a last line without newline is spoiled, however short it is
+abbrev pub cutOff : Line → Line
+cutOff l = record { number = l .number; text = l .text; len = l .len; long = true }
+
 -- a piece taken up to and with its first newline, or all of it: the line then, how much was used, and whether the line has ended
 abbrev pub oneMore : Cut → Cut
 oneMore c = record { line = c .line; used = suc (c .used); ended = c .ended }
@@ -54,7 +57,3 @@ cutOf l (b ∷ rest) = cond (eqb b 10) (record { line = l; used = 1; ended = tru
 -- room for one refusal
 abbrev pub refusalRoom : ℕ
 refusalRoom = 64
-
--- what a last line without newline is answered
-abbrev pub cutOff : ℕ → Row → List ℕ
-cutOff k row = cond (isNone row) [] (refusal k 10)

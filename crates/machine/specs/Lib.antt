@@ -2,4 +2,5 @@ pub mod Rows
 pub mod Machine
 pub mod Answers
 pub mod Pieces
+pub mod Steps
 pub mod AtHand

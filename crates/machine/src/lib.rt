@@ -4,7 +4,6 @@ mod refusals;
 
 pub use line::Cut;
 pub use line::Line;
-pub use refusals::cut_off;
 pub use refusals::put_pair;
 pub use refusals::refusal;
 pub use refusals::spoken;

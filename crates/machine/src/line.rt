@@ -2,7 +2,7 @@
 ghost use mathlib.Core.Path.{_≡_};
 ghost use Prim.Native.Nat.{_+_, _<_, _^_};
 ghost use Rattle.machine.specs.Rows.{mostBytes};
-ghost use Rattle.machine.specs.AtHand.{empty, pushed, rowOf, isNone, cutOf, LineFits};
+ghost use Rattle.machine.specs.AtHand.{empty, pushed, rowOf, isNone, cutOff, cutOf, LineFits};
 
 pub struct Line {
     pub number: u64,
@@ -72,6 +72,14 @@ impl Line {
             return false;
         }
         self.len == 0
+    }
+
+    // The line where the input ends in it.
+    pub fn cut_off(mut self) -> Line
+        ensures { λ r. ⌜ r ≡ cutOff self ⌝ }
+    {
+        self.long = true;
+        self
     }
 
     // Takes the piece up to and with its first newline, or all of it where it has none.

@@ -6,8 +6,7 @@ ghost use Rattle.ground.specs.Areas.{Wrote};
 ghost use Rattle.ground.specs.Texts.{ascii};
 ghost use Rattle.print.specs.Texts.{decimal};
 ghost use Rattle.machine.specs.Machine.{refusal as refusalText, spoken as spokenText};
-ghost use Rattle.machine.specs.AtHand.{rowOf, LineFits, cutOff, refusalRoom};
-use crate::line::Line;
+ghost use Rattle.machine.specs.AtHand.{refusalRoom};
 use print;
 
 // A word, a number, what stands between, a number and a newline.
@@ -39,16 +38,4 @@ pub fn spoken(out: &mut [u8], number: u64, answer: u64) -> usize
         return 0;
     }
     refusal(out, number, answer)
-}
-
-// What a last line without newline is answered, if anything of it has come.
-pub fn cut_off(line: Line, out: &mut [u8]) -> usize
-    requires { ⌜ LineFits line ⌝ }
-    requires { ⌜ refusalRoom ≤ length (now out) ⌝ }
-    ensures { λ r. ⌜ Wrote (now (out .entry)) 0 (cutOff (line .number) (rowOf line)) r (now (out .exit)) ⌝ }
-{
-    if line.is_none() {
-        return 0;
-    }
-    refusal(out, line.number, 10)
 }
