@@ -43,7 +43,7 @@ last-on d e c [] = refl
 last-on d e c (undated k ∷ xs) = last-on d e c xs
 last-on d e c (on f k ∷ xs) = last-on f e c xs
 
-last-undated : (d : Date) (c : Call) (xs : List Booking) → lastOf d (xs ++ undated c ∷ []) ≡ lastOf d xs
+pub last-undated : (d : Date) (c : Call) (xs : List Booking) → lastOf d (xs ++ undated c ∷ []) ≡ lastOf d xs
 last-undated d c [] = refl
 last-undated d c (undated k ∷ xs) = last-undated d c xs
 last-undated d c (on f k ∷ xs) = last-undated f c xs

@@ -1,0 +1,4 @@
+pub mod Prints
+pub mod Heard
+pub mod States
+pub mod Parts
