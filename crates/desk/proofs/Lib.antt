@@ -2,6 +2,5 @@ pub mod Texts
 pub mod Results
 pub mod Outputs
 pub mod Steps
-pub mod Desks
 pub mod Answers
 pub mod Samples

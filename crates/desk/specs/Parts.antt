@@ -10,13 +10,13 @@ use Rattle.sheet.specs.declared.Sheet.{Sheet}
 use Rattle.sheet.specs.declared.Answer.{Answer}
 use Rattle.histories.specs.Histories.{Good}
 use Rattle.machine.specs.Rows.{Row}
+use Rattle.machine.specs.Steps.{SteppedBy}
 use Rattle.lines.specs.declared.First.{First}
 use Rattle.lines.specs.Words.{RowOpens}
-use Rattle.desk.specs.Prints.{Result, firstNumber, firstRecord, State, Step}
-use Rattle.desk.specs.States.{recordIn, sessionOf}
-use Rattle.desk.specs.declared.session.Stage.{Stage}
-use Rattle.desk.specs.declared.session.Session.{Session}
-use Rattle.desk.specs.declared.session.Stepped.{Stepped}
+use Rattle.desk.specs.Prints.{Result, firstNumber, firstRecord, State, holdings}
+use Rattle.desk.specs.States.{deskOf}
+use Rattle.desk.specs.declared.stages.Stage.{Stage}
+use Rattle.desk.specs.declared.stages.Stepped.{Stepped}
 
 -- a sheet that was worked out afresh from this record
 pub record OfRecord (sheet : Sheet) (r : Record) : Type 0 where
@@ -26,13 +26,8 @@ pub record OfRecord (sheet : Sheet) (r : Record) : Type 0 where
 abbrev pub SheetOfRecord : Sheet → Type 0
 SheetOfRecord sheet = (r : Record) × OfRecord sheet r
 
--- the session stands in this state
-pub record In (c : Session) (s : State) : Type 0 where
-  pub is : c ≡ sessionOf s
-  pub good : Good (recordIn s)
-
 abbrev pub ledTo : Stage → Sheet → ℕ → Stepped
-ledTo stage sheet wrote = record { session = record { stage = stage; sheet = sheet }; wrote = wrote }
+ledTo stage sheet wrote = record { desk = record { stage = stage; sheet = sheet }; wrote = wrote }
 
 -- what line 1 is answered, and the sheet that it opens
 pub record FirstAnswered (row : Row) (a : Answer) : Type 0 where
@@ -40,13 +35,9 @@ pub record FirstAnswered (row : Row) (a : Answer) : Type 0 where
   pub opens : RowOpens row says
   pub is : a ≡ record { number = firstNumber says; sheet = sheetOf entries (firstRecord says) }
 
--- line k was taken in this state: the session behind it, and what was laid in the area
-pub record SteppedTo (k : ℕ) (s : State) (row : Row) (out : List ℕ) (r : Stepped) (later : List ℕ) : Type 0 where
-  pub state : State
-  pub said : List ℕ
-  pub step : Step k s row state said
-  pub session : r .session ≡ sessionOf state
-  pub laid : Wrote out 0 said (r .wrote) later
+-- line k was taken in this state
+abbrev pub SteppedTo : ℕ → State → Row → List ℕ → Stepped → List ℕ → Type 0
+SteppedTo k s row out r later = SteppedBy holdings deskOf k s row out (r .desk) (r .wrote) later
 
 -- room for the two lines in front of the list, for a line with a time, and for the result
 abbrev pub headsRoom : ℕ

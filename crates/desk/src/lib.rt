@@ -1,11 +1,10 @@
-// The desk: a session from bytes to bytes, taken in pieces.
+// The desk: what the lines of a session lead to and print, from marks to the result.
 mod page;
-mod session;
+mod stages;
 
-pub use session::Desk;
-pub use session::Fed;
-pub use session::Session;
-pub use session::Stage;
-pub use session::feed;
-pub use session::finish;
-pub use session::first_answer;
+pub use stages::Desk;
+pub use stages::Stage;
+pub use stages::Stepped;
+pub use stages::first_answer;
+pub use stages::step;
+pub use stages::stop;

@@ -13,6 +13,7 @@ use Rattle.print.specs.Texts.{decimal}
 use Rattle.print.proofs.Digits.{number-room}
 use Rattle.ground.proofs.Cases.{if}
 use Rattle.machine.specs.Machine.{refusal, spoken}
+use Rattle.machine.specs.Steps.{pageRoom}
 
 pub wrote-three : {out o₁ o₂ o₃ : List ℕ} {at r₁ r₂ r₃ : ℕ} {a b c : List ℕ} → Wrote out at a r₁ o₁ → Wrote o₁ r₁ b r₂ o₂ → Wrote o₂ r₂ c r₃ o₃
     → at + length a + length b + length c ≤ length out → Wrote out at (a ++ b ++ c) r₃ o₃
@@ -43,7 +44,7 @@ wrote-behind {out} {o₁} {o₂} {r₁} {b = b} p q f g =
       length-take-le r₁ o₁ (wrote-front p .1),
     ))
 
-pub spoken-length : (k a : ℕ) → k < 2 ^ 64 → a < 2 ^ 64 → length (spoken k a) ≤ 50
+spoken-length : (k a : ℕ) → k < 2 ^ 64 → a < 2 ^ 64 → length (spoken k a) ≤ 50
 unfolding refusal
 spoken-length k a h l =
     if (eqb a 0)
@@ -56,3 +57,7 @@ spoken-length k a h l =
       length-append (decimal k ++ ascii " ") (decimal a),
       length-append (decimal k ++ ascii " " ++ decimal a) (10 ∷ []),
     )))
+
+-- a refusal, or nothing, has room
+pub spoken-short : (k a : ℕ) {w : ℕ} {out later : List ℕ} → Wrote out 0 (spoken k a) w later → k < 2 ^ 64 → a < 2 ^ 64 → w ≤ pageRoom
+spoken-short k a p h l = omega (arith, p .place, spoken-length k a h l)

@@ -1,6 +1,6 @@
--- EXACTLY ONE OUTPUT FOR EACH INPUT, where a line in a state leads to one state and prints one text; and no two returns of a call on a piece.
+-- EXACTLY ONE OUTPUT FOR EACH INPUT, where a line in a state leads to one state and prints one text; and no two returns of a call.
 use Prim.Native.Nat.{ℕ, _+_}
-use mathlib.Core.Path.{_≡_, refl, sym, ap₂, _∙_, subst}
+use mathlib.Core.Path.{_≡_, refl, sym, ap, ap₂, _∙_, subst}
 use mathlib.Core.List.{List, [], _∷_, _++_}
 use Rattle.ground.specs.Areas.{Wrote}
 use Rattle.ground.proofs.Areas.{wrote-settled}
@@ -8,6 +8,7 @@ use Rattle.machine.specs.Rows.{Row, rows}
 use Rattle.machine.specs.Machine.{Machine, Onward, stopped, line, Output}
 use Rattle.machine.specs.Answers.{OneAnswer, SomeAnswer}
 use Rattle.machine.specs.Pieces.{Position, in-line, stateIn, Takes, none, byte, newline, Finishes, ended, cut-off, FedBy, FinishedBy}
+use Rattle.machine.specs.Steps.{SteppedBy, StoppedBy}
 
 module _ {M : Machine} (one : OneAnswer M) where
   onward-one : {k : ℕ} {s : M .State} {l : List Row} {a b : List ℕ} → Onward M k s l a → Onward M k s l b → a ≡ b
@@ -43,6 +44,17 @@ module _ {M : Machine} (one : OneAnswer M) where
   pub finished-one : {p : Position M} {out o₁ o₂ : List ℕ} {w x : ℕ} → FinishedBy M p out w o₁ → FinishedBy M p out x o₂ → (w ≡ x) × (o₁ ≡ o₂)
   finished-one {out = out} {o₂ = o₂} {x = x} f g =
       wrote-settled (f .laid) (subst (λ (l : List ℕ). Wrote out 0 l x o₂) (sym (finishes-one (f .finishes) (g .finishes))) (g .laid))
+
+  pub stepped-one : {S : Type 0} {held : M .State → S} {k : ℕ} {s : M .State} {row : Row} {out o₁ o₂ : List ℕ} {c d : S} {w x : ℕ}
+      → SteppedBy M held k s row out c w o₁ → SteppedBy M held k s row out d x o₂ → (c ≡ d) × (w ≡ x) × (o₁ ≡ o₂)
+  stepped-one {held = held} {out = out} {o₂ = o₂} {x = x} f g =
+      let t = one .step (f .step) (g .step) in
+      let w = wrote-settled (f .laid) (subst (λ (l : List ℕ). Wrote out 0 l x o₂) (sym (t .1)) (g .laid)) in
+      (f .is ∙ ap held (t .0) ∙ sym (g .is), w .0, w .1)
+
+  pub stopped-one : {s : M .State} {out o₁ o₂ : List ℕ} {at w x : ℕ} → StoppedBy M s out at w o₁ → StoppedBy M s out at x o₂ → (w ≡ x) × (o₁ ≡ o₂)
+  stopped-one {out = out} {o₂ = o₂} {at = at} {x = x} f g =
+      wrote-settled (f .laid) (subst (λ (l : List ℕ). Wrote out at l x o₂) (one .stop (g .stop) (f .stop)) (g .laid))
 
   module _ (all : SomeAnswer M) where
     -- it stays in states that it can be in

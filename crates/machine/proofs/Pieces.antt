@@ -11,7 +11,7 @@ use lib.Seq.{take-all, take-add}
 use borrow.Author.Tests.{eqb-true, eqb-false, ne-eqb}
 use Rattle.ground.proofs.Cases.{if, clash}
 use Rattle.ground.proofs.Areas.{wrote-none}
-use Rattle.machine.specs.Rows.{Row, spoiled, judged, rowsFrom, rows}
+use Rattle.machine.specs.Rows.{Row, judged, rowsFrom, rows}
 use Rattle.machine.specs.Machine.{Machine, Onward, stopped, line, Output}
 use Rattle.machine.specs.Pieces.{Position, in-line, start, lineIn, Takes, none, byte, newline, Finishes, ended, cut-off, InPieces, done, piece, upToNewline, FedBy, FinishedBy}
 use Rattle.machine.specs.Steps.{SteppedBy, StoppedBy}

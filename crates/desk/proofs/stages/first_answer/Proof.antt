@@ -1,8 +1,8 @@
 -- As line 1 reads.
 use borrow.Author.Needs.{needs}
 use Rattle.desk.proofs.Steps.{first-lost, first-marks}
-use Rattle.desk.proofs.session.first_answer.Statement.{statement}
-use Rattle.desk.proofs.session.first_answer.Tie as tie
+use Rattle.desk.proofs.stages.first_answer.Statement.{statement}
+use Rattle.desk.proofs.stages.first_answer.Tie as tie
 
 returns : tie.Need-returns
 returns c = first-lost (c .before .before .before .first-of .ensures) (c .before .enum-told .given .1) (c .opened .ensures)

@@ -2,8 +2,8 @@
 use borrow.Author.Needs.{needs}
 use Rattle.desk.specs.States.{recordIn}
 use Rattle.desk.proofs.Steps.{of-record, step-first, step-later, step-over}
-use Rattle.desk.proofs.session.step.Statement.{statement}
-use Rattle.desk.proofs.session.step.Tie as tie
+use Rattle.desk.proofs.stages.step.Statement.{statement}
+use Rattle.desk.proofs.stages.step.Tie as tie
 
 later-line-requires : tie.Need-later-line-requires
 later-line-requires c κs = let s = c .before .before .before .before .before in ((recordIn (s .pre .0 .0), of-record (s .pre .0 .1)), s .pre .1)
