@@ -15,20 +15,20 @@ unfoldable pub digits : ℕ → ℕ → List ℕ
 digits zero n = []
 digits (suc k) n = digits k (n / 10) ++ (48 + n % 10) ∷ []
 
--- a text is a number of k digits
-pub record Writes (k : ℕ) (text : List ℕ) (n : ℕ) : Type 0 where
+-- a part is a number of k digits
+pub record Writes (k : ℕ) (part : List ℕ) (n : ℕ) : Type 0 where
   pub small : n < 10 ^ k
-  pub text : text ≡ digits k n
+  pub text : part ≡ digits k n
 
 unfoldable pub dateText : Date → List ℕ
 dateText d = digits 4 (d .year) ++ ascii "-" ++ digits 2 (d .month) ++ ascii "-" ++ digits 2 (d .day)
 
--- a text is a date, one space, and the rest; whether there is such a day is not asked here
-pub record DatedBy (text : List ℕ) (d : Date) (rest : List ℕ) : Type 0 where
+-- a line is a date, one space, and the rest; whether there is such a day is not asked here
+pub record DatedBy (line : List ℕ) (d : Date) (rest : List ℕ) : Type 0 where
   pub year : d .year < 10 ^ 4
   pub month : d .month < 10 ^ 2
   pub day : d .day < 10 ^ 2
-  pub text : text ≡ dateText d ++ ascii " " ++ rest
+  pub text : line ≡ dateText d ++ ascii " " ++ rest
 
 -- what the functions of the reader tell
 
@@ -37,5 +37,5 @@ Numbered part (Digits n) = Writes (length part) part n
 Numbered part NoDigits = (n : ℕ) → Writes (length part) part n → ⊥
 
 abbrev pub DatingOf : List ℕ → Dating → Type 0
-DatingOf text (On d) = (rest : List ℕ) × DatedBy text d rest
-DatingOf text NoDate = (d : Date) (rest : List ℕ) → DatedBy text d rest → ⊥
+DatingOf line (On d) = (rest : List ℕ) × DatedBy line d rest
+DatingOf line NoDate = (d : Date) (rest : List ℕ) → DatedBy line d rest → ⊥
