@@ -10,7 +10,7 @@ use borrow.Author.Tests.{eqb-true}
 use Rattle.ground.proofs.Cases.{if, and-left, and-right, below-or}
 use Rattle.dates.specs.Gregorian.{daysIn, isDay, earlier, lastDay}
 use Rattle.dates.specs.declared.date.Date.{Date}
-use Rattle.dates.proofs.Gregorian.{day-month, not-past, past, month-kept}
+use Rattle.dates.proofs.Calendar.{day-month, not-past, past, month-kept}
 use Rattle.sheet.specs.Record.{Record, opened}
 use Rattle.sheet.specs.declared.Call.{Call}
 use Rattle.listing.specs.Listing.{totalOf}
@@ -110,12 +110,12 @@ module _ {h : History} (kept : Kept h) where
   module _ (d : Date) (c : Call) (ok : dateOk (h .year) (lastDate h) d ≡ true) where
     before-it : (m : ℕ) → m < d .month → calls (upTo (lastDay (h .year) m)) (h .bookings ++ on d c ∷ []) ≡ calls (upTo (lastDay (h .year) m)) (h .bookings)
     before-it m l =
-        calls-out (upTo (lastDay (h .year) m)) (on d c) (h .bookings) (ap not (past (h .year) m d (ok-year (h .year) (lastDate h) d ok) l))
+        calls-out (upTo (lastDay (h .year) m)) (on d c) (h .bookings) (ap not (past d (h .year) m (ok-year (h .year) (lastDate h) d ok) l))
 
     from-it : (m : ℕ) → d .month ≤ m → calls (upTo (lastDay (h .year) m)) (h .bookings ++ on d c ∷ []) ≡ calls any (h .bookings) ++ c ∷ []
     from-it m l =
         calls-in (upTo (lastDay (h .year) m)) (on d c) (h .bookings)
-        (ap not (not-past (h .year) m d (ok-year (h .year) (lastDate h) d ok) l (in-month (day-month d (ok-day (h .year) (lastDate h) d ok) .2))))
+        (ap not (not-past d (h .year) m (ok-year (h .year) (lastDate h) d ok) l (in-month (day-month d (ok-day (h .year) (lastDate h) d ok) .2))))
         ∙ ap (λ (ks : List Call). ks ++ c ∷ []) (kept .whole m (omega (arith, ok-month (h .year) (lastDate h) d ok (kept .year))))
       where
         in-month : d .day ≤ daysIn (d .year) (d .month) → d .day ≤ daysIn (h .year) (d .month)

@@ -86,7 +86,7 @@ pub good-one : Good (opened 1)
 unfolding marksOk
 good-one = good-opened 1 refl
 
-good-first : (f : First) → Good (firstRecord f)
+pub good-first : (f : First) → Good (firstRecord f)
 good-first (Marks n) = if (marksOk mostMarks n) (λ e. rw e (good-opened n e)) (λ e. rw e good-one)
 good-first NotMarks = good-one
 

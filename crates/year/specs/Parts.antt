@@ -15,9 +15,9 @@ use Rattle.year_lines.specs.Slips.{RowAsks}
 use Rattle.bookings.specs.Bookings.{History, monthTotal}
 use Rattle.year.specs.Prints.{State, going, months, page}
 use Rattle.year.specs.States.{closedBefore, yearOf, In}
-use Rattle.year.specs.declared.session.Stage.{Stage}
-use Rattle.year.specs.declared.session.Year.{Year}
-use Rattle.year.specs.declared.session.Stepped.{Stepped}
+use Rattle.year.specs.declared.stages.Stage.{Stage}
+use Rattle.year.specs.declared.stages.Year.{Year}
+use Rattle.year.specs.declared.stages.Stepped.{Stepped}
 
 -- a year of which nothing is booked
 abbrev pub beginning : Stage → ℕ → Sheet → Year

@@ -12,9 +12,9 @@ use Rattle.sheet.specs.declared.Sheet.{Sheet}
 use Rattle.bookings.specs.Bookings.{History, begun, recordNow, monthTotal, lastDate}
 use Rattle.bookings.specs.Months.{Kept}
 use Rattle.year.specs.Prints.{State, first, named, going, over}
-use Rattle.year.specs.declared.session.Stage.{Stage}
-use Rattle.year.specs.declared.session.Stage.the-variants.{Naming, Opening, Going, Over}
-use Rattle.year.specs.declared.session.Year.{Year}
+use Rattle.year.specs.declared.stages.Stage.{Stage}
+use Rattle.year.specs.declared.stages.Stage.the-variants.{Naming, Opening, Going, Over}
+use Rattle.year.specs.declared.stages.Year.{Year}
 
 abbrev pub historyIn : State → History
 historyIn first = begun 0 1

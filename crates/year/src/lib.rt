@@ -1,9 +1,9 @@
 // A year on one page: the step of `months` from line to line, and its twelve rows.
 mod page;
-mod session;
+mod stages;
 
-pub use session::Stage;
-pub use session::Stepped;
-pub use session::Year;
-pub use session::step;
-pub use session::stop;
+pub use stages::Stage;
+pub use stages::Stepped;
+pub use stages::Year;
+pub use stages::step;
+pub use stages::stop;

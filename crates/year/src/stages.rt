@@ -1,4 +1,4 @@
-// The session: a state by value, and what a line and the end of the input do to it.
+// The stages of a session: a state by value, and what a line and the end of the input do to it.
 ghost use mathlib.Core.Path.{_≡_};
 ghost use mathlib.Core.Bool.{Bool};
 ghost use Prim.Native.Nat.{ℕ, _+_, _≤_};
@@ -90,12 +90,19 @@ impl Year {
 
 impl Year {
     // The same at this stage.
-    fn at_stage(mut self, stage: Stage, dated: bool) -> Year
+    fn at_stage(self, stage: Stage, dated: bool) -> Year
         ensures { λ r. ⌜ r ≡ atStage stage dated self ⌝ }
     {
-        self.stage = stage;
-        self.dated = dated;
-        self
+        let sheet = self.sheet;
+        let last = self.last;
+        let closed = self.closed;
+        Year {
+            stage,
+            dated,
+            sheet,
+            last,
+            closed,
+        }
     }
 }
 
@@ -157,7 +164,8 @@ fn totals_to(y: Year, month: usize) -> [u64; 12]
     if last.month == month {
         return closed;
     }
-    let total = listing::total(y.sheet);
+    let sheet = y.sheet;
+    let total = listing::total(sheet);
     page::close_months(closed, last.month, month, total.value)
 }
 
@@ -174,8 +182,16 @@ fn undated(y: Year, call: Call, number: u64, out: &mut [u8]) -> Stepped
     let old = y.sheet;
     let a = old.did(call);
     let wrote = machine::spoken(out, number, a.number);
-    let mut year = y;
-    year.sheet = a.sheet;
+    let sheet = a.sheet;
+    let last = y.last;
+    let closed = y.closed;
+    let year = Year {
+        stage: Stage::Going,
+        dated: false,
+        sheet,
+        last,
+        closed,
+    };
     Stepped { year, wrote }
 }
 
@@ -186,7 +202,8 @@ fn on_day(y: Year, date: Date, call: Call, number: u64, out: &mut [u8]) -> Stepp
     ensures { λ r. ⌜ AnswersSlip y number (Dated date call) (now (out .entry)) r (now (out .exit)) ⌝ }
 {
     let begun = y.at_stage(Stage::Going, true);
-    if !in_order(date, y.last) {
+    let last = y.last;
+    if !in_order(date, last) {
         let wrote = machine::refusal(out, number, 11);
         return Stepped { year: begun, wrote };
     }
