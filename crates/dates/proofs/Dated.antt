@@ -12,7 +12,7 @@ use Rattle.dates.specs.Texts.{digits, Numbered, dateText, DatedBy, Datin
 use Rattle.dates.proofs.Numbers.{writes-same, number-long}
 
 module _ {line : List ℕ} {d : Date} {rest : List ℕ} (w : DatedBy line d rest) where
-  dated-long : 11 ≤ length line
+  pub dated-long : 11 ≤ length line
   unfolding digits dateText
   dated-long = rw (w .text) (omega arith)
 
