@@ -1,19 +1,18 @@
 -- A date in front of a line, byte by byte: digits from 0, 5 and 8 on, `-` at 4 and 7, a space at 10, and the rest from 11 on.
-use Prim.Native.Nat.{ℕ, suc, _+_, _-_, _^_, _<_, _≤_}
-use mathlib.Core.Path.{_≡_, refl, sym, ap, _∙_, subst}
-use mathlib.Core.List.{List, [], _∷_, _++_}
+use Prim.Native.Nat.{ℕ, _<_, _≤_}
+use mathlib.Core.Path.{_≡_, refl, sym, ap, _∙_}
+use mathlib.Core.List.{List}
 use native.Mathlib.Omega.{arith}
-use lib.ListN.{length, getD, take, drop, length-append, length-drop, take-append-drop}
+use lib.ListN.{length, getD, take, drop, length-drop, take-append-drop}
 use lib.Seq.{take-suc, take-add, length-take-le}
-use Rattle.ground.specs.Texts.{ascii}
 use Rattle.dates.specs.declared.date.Date.{Date}
 use Rattle.dates.specs.declared.digits.Number.the-variants.{Digits, NoDigits}
 use Rattle.dates.specs.declared.reading.Dating.the-variants.{On, NoDate}
-use Rattle.dates.specs.Texts.{digits, Writes, Numbered, dateText, DatedBy, DatingOf}
+use Rattle.dates.specs.Texts.{digits, Numbered, dateText, DatedBy, DatingOf}
 use Rattle.dates.proofs.Numbers.{writes-same, number-long}
 
 module _ {line : List ℕ} {d : Date} {rest : List ℕ} (w : DatedBy line d rest) where
-  dated-long : 11 ≤ length line
+  pub dated-long : 11 ≤ length line
   unfolding digits dateText
   dated-long = rw (w .text) (omega arith)
 

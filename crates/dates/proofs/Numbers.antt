@@ -1,5 +1,5 @@
 -- Numbers of a fixed count of digits, read from the front: one digit more is ten times the number and the digit (`digits-more`).
-use Prim.Native.Nat.{ℕ, zero, suc, _+_, _-_, _*_, _/_, _%_, _^_, _<_, _≤_}
+use Prim.Native.Nat.{ℕ, zero, suc, _+_, _*_, _/_, _%_, _^_, _<_, _≤_}
 use mathlib.Core.Path.{_≡_, refl, sym, ap, ap₂, _∙_, subst}
 use mathlib.Core.List.{List, [], _∷_, _++_}
 use native.Mathlib.Nat.{pow-suc}
@@ -8,7 +8,6 @@ use native.Mathlib.Omega.{arith}
 use lib.ListN.{length, getD, take, length-append, List·getD-append}
 use lib.Seq.{take-at, take-all, take-suc, getD-at}
 use Rattle.ground.proofs.Cases.{below-or}
-use Rattle.dates.specs.declared.digits.Number.{Number}
 use Rattle.dates.specs.declared.digits.Number.the-variants.{Digits, NoDigits}
 use Rattle.dates.specs.Texts.{digits, Writes, Numbered}
 

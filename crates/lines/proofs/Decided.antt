@@ -32,7 +32,7 @@ use Rattle.lines.proofs.Patterns.{Tail, tail-none, tail-more, pattern-l
 use Rattle.lines.proofs.Orders.{amount-short, amount-unspaced, amount-unnamed, amount-untimed, amount-read, Verb, enter, leave, receive, withdraw, end, word, Part, enters, leaves, receives, withdraws, enter-unsaid, leave-unsaid, receive-unsaid, withdraw-unsaid, asked-said, asked-unsaid, asked-end, asked-more, asked-nothing, opens-other, opens-long, opens-byte, opens-marks}
 
 -- a line begins with a verb or does not
-begins-or : {P : Type 0} (verb line : List ℕ) → (Begins verb line → P) → ((Begins verb line → ⊥) → P) → P
+pub begins-or : {P : Type 0} (verb line : List ℕ) → (Begins verb line → P) → ((Begins verb line → ⊥) → P) → P
 begins-or [] line good bad = good (line, refl)
 begins-or (v ∷ verb) [] good bad = bad (λ b. let z = ap length (b .1) in omega arith)
 begins-or (v ∷ verb) (x ∷ line) good bad =

@@ -37,7 +37,7 @@ part-settled (receives n) (receives k) = let q = same-amount n k in ap₂ (λ (c
 part-settled (withdraws n) (withdraws k) = let q = same-amount n k in ap₂ (λ (c d : ℕ). Make (Withdraw c d)) (q .0) (q .1)
 part-settled ends ends = refl
 
-says-settled : {m : ℕ} {line : List ℕ} {o p : Order} → Says m line o → Says m line p → o ≡ p
+pub says-settled : {m : ℕ} {line : List ℕ} {o p : Order} → Says m line o → Says m line p → o ≡ p
 says-settled s k = let a = apart s in part-settled (a .says) (apart-same (a .verb) (a .part) (a .text) k)
 
 pub asked-settled : {m : ℕ} {line : List ℕ} {o p : Order} → Asked m line o → Asked m line p → o ≡ p

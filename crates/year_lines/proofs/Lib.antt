@@ -1,0 +1,4 @@
+pub mod Years
+pub mod Slips
+pub mod Settled
+pub mod Decided
