@@ -1,11 +1,12 @@
 -- EXACTLY ONE OUTPUT FOR EACH INPUT: each line is read one way, and every line asks for something. Behind line 2 what it asks for tells all (`led`).
 use Prim.Native.Nat.{ℕ}
 use mathlib.Core.Path.{_≡_, refl, sym, ap, _∙_, subst}
-use mathlib.Core.Bool.{Bool, true, false}
+use mathlib.Core.Bool.{Bool, true, false, true≢false}
 use mathlib.Core.List.{List, []}
 use native.Mathlib.Omega.{arith}
-use Rattle.ground.proofs.Cases.{same-or}
+use Rattle.ground.proofs.Cases.{if, same-or}
 use Rattle.dates.specs.declared.date.Date.{Date}
+use Rattle.sheet.specs.Limits.{mostMarks, marksOk}
 use Rattle.sheet.specs.Record.{opened}
 use Rattle.histories.specs.Histories.{Good}
 use Rattle.machine.specs.Rows.{Row}
@@ -61,7 +62,7 @@ step-led (unread {b = false} w) = record { slip = _; asks = w; state = refl; sai
 step-led (ended {b = true} w) = record { slip = _; asks = w; state = refl; said = refl }
 step-led (ended {b = false} w) = record { slip = _; asks = w; state = refl; said = refl }
 
-led-step : (k : ℕ) (b : Bool) (h : History) (row : Row) (s : Slip) → RowAsks (h .marks) row s → Step k (going b h) row (led k b h s .0) (led k b h s .1)
+pub led-step : (k : ℕ) (b : Bool) (h : History) (row : Row) (s : Slip) → RowAsks (h .marks) row s → Step k (going b h) row (led k b h s .0) (led k b h s .1)
 led-step k true h row (Dated d c) w = dated w
 led-step k false h row (Dated d c) w = dated w
 led-step k true h row (Plain (Make c)) w = late w
@@ -114,7 +115,8 @@ one-answer = record { step = step-one; stop = stop-one }
 -- some output, and the states stay those that a session can be in
 
 pub first-opened : (f : First) → firstRecord f ≡ opened (firstRecord f .marks)
-first-opened f = ?
+first-opened (Marks n) = if (marksOk mostMarks n) (λ e. rw e) (λ e. rw e)
+first-opened NotMarks = refl
 
 pub good-start : (y : ℕ) → Kept (begun y 1)
 good-start y = kept-begun y 1 good-one
@@ -123,8 +125,8 @@ pub good-opening : (y : ℕ) (f : First) → Kept (opening y f)
 good-opening y f = kept-begun y (firstRecord f .marks) (subst Good (first-opened f) (good-first f))
 
 sensible-led : (k : ℕ) (b : Bool) (h : History) (s : Slip) → Sensible (going b h) → Sensible (led k b h s .0)
-sensible-led k true h (Dated d c) w = (kept-after-on (w .0) d c, λ z. absurd ?)
-sensible-led k false h (Dated d c) w = (kept-after-on (w .0) d c, λ z. absurd ?)
+sensible-led k true h (Dated d c) w = (kept-after-on (w .0) d c, λ z. absurd (true≢false z))
+sensible-led k false h (Dated d c) w = (kept-after-on (w .0) d c, λ z. absurd (true≢false z))
 sensible-led k true h (Plain (Make c)) w = w
 sensible-led k false h (Plain (Make c)) w =
     (kept-after-undated (w .0) c (w .1 refl), λ z. ap (λ (d : Date). d .month) (last-after-undated h c) ∙ w .1 refl)

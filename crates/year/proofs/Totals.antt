@@ -1,17 +1,22 @@
 -- The totals of the months that are over: entry by entry, each is its month's total (`closed-more`), which a later booking leaves (`closed-kept`).
-use Prim.Native.Nat.{ℕ, zero, suc, _+_, _-_, _≤_, _<_}
+use Prim.Native.Nat.{ℕ, zero, suc, _+_, _-_, _^_, _≤_, _<_}
 use mathlib.Core.Path.{_≡_, refl, sym, ap, ap₂, _∙_}
 use mathlib.Core.Bool.{Bool, true, false, cond, _&&_}
 use mathlib.Core.List.{List, _++_}
 use native.Mathlib.Numerals.{add-one}
 use native.Mathlib.Omega.{arith}
 use lib.Dec.{leb, ltb}
-use lib.ListN.{length, getD, set, replicate, length-set}
+use lib.ListN.{length, getD, set, replicate, length-set, length-append}
 use lib.Seq.{getD-set-same, getD-set-other}
 use borrow.Author.Tests.{lt-ltb, le-ltb, le-leb, lt-leb}
 use Rattle.ground.proofs.Cases.{below-or, same-or}
 use Rattle.tables.specs.Tables.{tab}
 use Rattle.tables.proofs.Entries.{tab-length, tab-entry, tab-of, tab-ext}
+use Rattle.ground.specs.Texts.{ascii}
+use Rattle.print.specs.Texts.{clock}
+use Rattle.print.proofs.Digits.{time-room}
+use Rattle.dates.specs.Texts.{digits}
+use Rattle.dates.proofs.Numbers.{digits-length}
 use Rattle.dates.specs.declared.date.Date.{Date}
 use Rattle.sheet.specs.declared.Call.{Call}
 use Rattle.bookings.specs.Bookings.{on, History, recordNow, monthTotal, lastDate, dateOk, withBooking}
@@ -19,7 +24,7 @@ use Rattle.bookings.specs.Months.{Kept}
 use Rattle.bookings.proofs.Bookings.{month-before}
 use Rattle.year.specs.Prints.{monthRow, monthRows}
 use Rattle.year.specs.States.{closedBefore}
-use Rattle.year.specs.Parts.{closedWith}
+use Rattle.year.specs.Parts.{closedWith, monthIn}
 
 -- as long as it is January no month is over
 pub closed-none : (totals : ℕ → ℕ) → closedBefore 1 totals ≡ replicate 12 0
@@ -91,7 +96,25 @@ unfolding monthRows
 rows-same f g zero e = refl
 rows-same f g (suc n) e = ap₂ (λ (a : List ℕ) (x : ℕ). a ++ monthRow (suc n) x) (rows-same f g n (λ i l. e i (omega arith))) (e n (omega arith))
 
-pub rows-all : (totals : ℕ → ℕ) → monthRows (λ m. getD (closedBefore 13 totals) (m - 1) 0) 12 ≡ monthRows totals 12
+pub rows-all : (totals : ℕ → ℕ) → monthRows (monthIn (closedBefore 13 totals)) 12 ≡ monthRows totals 12
 rows-all totals =
     rows-same _ totals 12 (λ i l. let z : suc i - 1 ≡ i = omega arith in
     ap (λ (j : ℕ). getD (closedBefore 13 totals) j 0) z ∙ tab-entry 12 _ i l ∙ rw (lt-ltb (suc i) 13 (omega arith)))
+
+-- their texts
+
+pub row-length : (m s : ℕ) → s < 2 ^ 64 → length (monthRow m s) ≤ 25
+unfolding monthRow
+row-length m s l =
+    omega (
+      arith,
+      digits-length 2 m,
+      time-room s l,
+      length-append (digits 2 m) (ascii " "),
+      length-append (digits 2 m ++ ascii " ") (clock s),
+      length-append (digits 2 m ++ ascii " " ++ clock s) (ascii "\n"),
+    )
+
+pub rows-more : (f : ℕ → ℕ) (n : ℕ) → monthRows f (n + 1) ≡ monthRows f n ++ monthRow (n + 1) (f (n + 1))
+unfolding monthRows
+rows-more f n = rw (add-one n)

@@ -1,5 +1,5 @@
 -- What the functions of a year tell each other.
-use Prim.Native.Nat.{ℕ, suc, _+_, _≤_}
+use Prim.Native.Nat.{ℕ, suc, _+_, _-_, _≤_}
 use mathlib.Core.Path.{_≡_}
 use mathlib.Core.Bool.{Bool, false, cond, _&&_}
 use mathlib.Core.List.{List}
@@ -32,6 +32,10 @@ beginning stage y sheet = record {
 -- entries with the same total for the months from the first of these up to, and not with, the second
 abbrev pub closedWith : List ℕ → ℕ → ℕ → ℕ → List ℕ
 closedWith totals from to total = tab 12 (λ i. cond (leb from (suc i) && ltb (suc i) to) total (getD totals i 0))
+
+-- the entry of a month, counted from 1
+abbrev pub monthIn : List ℕ → ℕ → ℕ
+monthIn totals m = getD totals (m - 1) 0
 
 -- room for a row, and for twelve
 abbrev pub rowRoom : ℕ

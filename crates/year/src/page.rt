@@ -1,10 +1,10 @@
 // The twelve rows: the totals of the months that are over, and their texts.
 ghost use mathlib.Core.Path.{_≡_};
-ghost use Prim.Native.Nat.{_+_, _-_, _*_, _≤_, _<_};
-ghost use lib.ListN.{length, getD};
+ghost use Prim.Native.Nat.{_+_, _*_, _≤_, _<_};
+ghost use lib.ListN.{length};
 ghost use Rattle.ground.specs.Areas.{Wrote};
 ghost use Rattle.year.specs.Prints.{monthRow, monthRows};
-ghost use Rattle.year.specs.Parts.{closedWith, rowRoom};
+ghost use Rattle.year.specs.Parts.{closedWith, monthIn, rowRoom};
 use dates;
 use ground;
 use print;
@@ -36,10 +36,11 @@ fn put_row(out: &mut [u8], at: usize, month: usize, seconds: u64) -> usize
 }
 
 // A row for each month.
-pub fn put_rows(out: &mut [u8], at: usize, totals: [u64; 12]) -> usize
+pub fn put_rows(out: &mut [u8], at: usize, totals: &[u64]) -> usize
+    requires { ⌜ length (now totals) ≡ 12 ⌝ }
     requires { ⌜ at + rowRoom * 12 ≤ length (now out) ⌝ }
     ensures { λ r. ⌜ r ≤ at + rowRoom * 12 ⌝ }
-    ensures { λ r. ⌜ Wrote (now (out .entry)) at (monthRows (λ m. getD totals (m - 1) 0) 12) r (now (out .exit)) ⌝ }
+    ensures { λ r. ⌜ Wrote (now (out .entry)) at (monthRows (monthIn (now (totals .entry))) 12) r (now (out .exit)) ⌝ }
 {
     let mut next = at;
     let mut month: usize = 0;

@@ -232,7 +232,7 @@ fn put_page(y: Year, out: &mut [u8], at: usize) -> usize
     ensures { λ r. ⌜ PageLaid y (now (out .entry)) at r (now (out .exit)) ⌝ }
 {
     let totals = totals_to(y, 13);
-    page::put_rows(out, at, totals)
+    page::put_rows(out, at, &totals)
 }
 
 // A line without a date.
