@@ -16,10 +16,10 @@ returns : tie.Need-returns
 returns c = asked-undated (rw (c .before .enum-told .given .1) at (c .before .before .before .read-date .ensures)) (c .read .ensures)
 
 sub-read : tie.Need-sub-read
-sub-read c = dated-long (dating c .1)
+sub-read c = omega (arith, dated-long (dating c .1))
 
 part-read-start : tie.Need-part-read-start
-part-read-start c = dated-long (dating c .1)
+part-read-start c = omega (arith, dated-long (dating c .1))
 
 returns-2 : tie.Need-returns-2
 returns-2 c =

@@ -1,5 +1,6 @@
 -- Each way out is the law of what was tested.
 use mathlib.Core.Path.{refl}
+use native.Mathlib.Omega.{arith}
 use borrow.Author.Needs.{needs}
 use borrow.Author.Tests.{not-true, not-false}
 use Rattle.ground.specs.Texts.{ascii, Begins}
@@ -26,12 +27,12 @@ returns-3 c =
 returns-4 : tie.Need-returns-4
 returns-4 c =
     let s = c .before .before .before .before .before .before in
-    names-early (behind (ascii "year ") _ 5 (begun s) refl) (s .if2 .left) (rw (c .before .before .n .given .1) at (c .before .before .before .before .read-number .ensures)) (c .if3 .taken)
+    names-early (behind (ascii "year ") _ 5 (begun s) refl) (s .if2 .left) (rw (c .before .before .n .given .1) at (c .before .before .before .before .read-number .ensures)) (omega arith)
 
 returns-5 : tie.Need-returns-5
 returns-5 c =
     let s = c .before .before .before .before .before .before in
-    names-year (behind (ascii "year ") _ 5 (begun s) refl) (s .if2 .left) (rw (c .before .before .n .given .1) at (c .before .before .before .before .read-number .ensures)) (c .if3 .left)
+    names-year (behind (ascii "year ") _ 5 (begun s) refl) (s .if2 .left) (rw (c .before .before .n .given .1) at (c .before .before .before .before .read-number .ensures)) (omega arith)
 
 pub read-year-spec : {M : Type 1} → statement M
 read-year-spec = tie.close (tie.spec
