@@ -63,7 +63,7 @@ begun-is stage y m e = λ i. record {
   closed = sym (closed-none (monthTotal (begun y m))) i;
 }
 
-module _ {row : Row} {k w : ℕ} {out later : List ℕ} {year : Year} where
+module _ {row : Row} {k : ℕ} {out : List ℕ} {year : Year} where
   pub line-named : {n : Named} {y : ℕ} {sheet : Sheet} → RowNames row n → n ≡ YearNamed y → sheet ≡ sheetOf entries (opened 1) → year ≡ beginning Opening y sheet
       → SteppedTo k first row out (record { year = year; wrote = 0 }) out
   line-named {y = y} r q e is = record {
@@ -75,7 +75,7 @@ module _ {row : Row} {k w : ℕ} {out later : List ℕ} {year : Year} where
     short = omega arith;
   }
 
-  pub line-nameless : {n : Named} {sheet : Sheet} → RowNames row n → n ≡ NoYear → sheet ≡ sheetOf entries (opened 1) → year ≡ beginning Over 0 sheet
+  pub line-nameless : {w : ℕ} {later : List ℕ} {n : Named} {sheet : Sheet} → RowNames row n → n ≡ NoYear → sheet ≡ sheetOf entries (opened 1) → year ≡ beginning Over 0 sheet
       → Wrote out 0 (refusal k 10) w later → w ≤ pageRoom → SteppedTo k first row out (record { year = year; wrote = w }) later
   line-nameless r q e is p short = record {
     state = over (begun 0 1);
@@ -86,13 +86,14 @@ module _ {row : Row} {k w : ℕ} {out later : List ℕ} {year : Year} where
     short = short;
   }
 
-  module _ {a : Answer} (f : FirstAnswered row a) {y : ℕ} where
-    number-is : a .number ≡ firstNumber (f .says)
-    number-is = ap (λ (x : Answer). x .number) (f .is)
+module _ {row : Row} {a : Answer} (f : FirstAnswered row a) where
+  number-is : a .number ≡ firstNumber (f .says)
+  number-is = ap (λ (x : Answer). x .number) (f .is)
 
-    sheet-opened : a .sheet ≡ sheetOf entries (opened (firstRecord (f .says) .marks))
-    sheet-opened = ap (λ (x : Answer). x .sheet) (f .is) ∙ ap (sheetOf entries) (first-opened (f .says))
+  sheet-opened : a .sheet ≡ sheetOf entries (opened (firstRecord (f .says) .marks))
+  sheet-opened = ap (λ (x : Answer). x .sheet) (f .is) ∙ ap (sheetOf entries) (first-opened (f .says))
 
+  module _ {k w y : ℕ} {out later : List ℕ} {year : Year} where
     pub marks-opened : year ≡ beginning Going y (a .sheet) → Wrote out 0 (spoken k (a .number)) w later → w ≤ pageRoom → a .number ≡ 0
         → SteppedTo k (named y) row out (record { year = year; wrote = w }) later
     marks-opened is p short z = record {
@@ -142,12 +143,15 @@ module _ {y : Year} {b : Bool} {h : History} (i : In y (going b h)) where
   pub month-few : (1 ≤ y .last .month) × (y .last .month ≤ 12)
   month-few = subst (λ (d : Date). (1 ≤ d .month) × (d .month ≤ 12)) (sym last-is) (kept .month)
 
-  did-is : {a : Answer} {c : Call} → a ≡ didOf mostMarks (y .sheet) c
+  did-is : {a : Answer} (c : Call) → a ≡ didOf mostMarks (y .sheet) c
       → a ≡ record { number = numberOf (recordNow h) c; sheet = sheetOf entries (after (recordNow h) c) }
-  did-is {c = c} e = e ∙ ap (λ (s : Sheet). didOf mostMarks s c) sheet-is ∙ did-kept (recordNow h) (kept-good kept) c
+  did-is c e = e ∙ ap (λ (s : Sheet). didOf mostMarks s c) sheet-is ∙ did-kept (recordNow h) (kept-good kept) c
 
   ok-is : (d : Date) → dateOk (y .last .year) (y .last) d ≡ dateOk (h .year) (lastDate h) d
   ok-is d = ap (λ (l : Date). dateOk (l .year) l d) last-is ∙ ap (λ (n : ℕ). dateOk n (lastDate h) d) (kept .year)
+
+  day-number : {a : Answer} (d : Date) (c : Call) → dateOk (y .last .year) (y .last) d ≡ true → a ≡ didOf mostMarks (y .sheet) c → bookingNumber h (on d c) ≡ a .number
+  day-number d c ok did = date-good h d c (sym (ok-is d) ∙ ok) ∙ sym (ap (λ (x : Answer). x .number) (did-is c did))
 
   -- the totals of the months that are over
 
@@ -182,17 +186,17 @@ module _ {y : Year} {b : Bool} {h : History} (i : In y (going b h)) where
     pub undated-stock : {c : Call} {a : Answer} → y .dated ≡ false → RowAsks (h .marks) row (Plain (Make c)) → a ≡ didOf mostMarks (y .sheet) c
         → Wrote out 0 (spoken k (a .number)) w later → w ≤ pageRoom
         → SteppedTo k (going b h) row out
-            (record { year = record { stage = Going; dated = false; sheet = a .sheet; last = y .last; closed = y .closed }; wrote = w }) later
+        (record { year = record { stage = Going; dated = false; sheet = a .sheet; last = y .last; closed = y .closed }; wrote = w }) later
     undated-stock {c} {a} e r did p short =
         let q : b ≡ false = sym dated-is ∙ e in
-        let is = did-is did in
+        let is = did-is c did in
         let stays = last-after-undated h c in
         let january = i .can .1 q in
         let sheet : a .sheet ≡ sheetOf entries (recordNow (afterBooking h (undated c))) =
         ap (λ (x : Answer). x .sheet) is ∙ ap (sheetOf entries) (sym (record-undated h c)) in
         let last : y .last ≡ lastDate (afterBooking h (undated c)) = last-is ∙ sym stays in
         let closed : y .closed ≡ closedBefore (lastDate (afterBooking h (undated c)) .month) (monthTotal (afterBooking h (undated c))) =
-        closed-is ∙ closed-january _ _ january ∙ sym (closed-january _ _ (ap (λ (d : Date). d .month) stays ∙ january)) in
+        closed-is ∙ closed-january _ (monthTotal h) january ∙ sym (closed-january _ (monthTotal (afterBooking h (undated c))) (ap (λ (d : Date). d .month) stays ∙ january)) in
         record {
           state = going false (afterBooking h (undated c));
           said = spoken k (bookingNumber h (undated c));
@@ -204,8 +208,8 @@ module _ {y : Year} {b : Bool} {h : History} (i : In y (going b h)) where
 
     -- a call on a day
 
-    module _ {d : Date} {c : Call} (r : RowAsks (h .marks) row (Dated d c)) {year : Year} where
-      not-taken : (bookingNumber h (on d c) ≡ 0 → ⊥) → year ≡ atStage Going true y → Wrote out 0 (spoken k (bookingNumber h (on d c))) w later → w ≤ pageRoom
+    module _ {d : Date} {c : Call} (r : RowAsks (h .marks) row (Dated d c)) where
+      not-taken : {year : Year} → (bookingNumber h (on d c) ≡ 0 → ⊥) → year ≡ atStage Going true y → Wrote out 0 (spoken k (bookingNumber h (on d c))) w later → w ≤ pageRoom
           → SteppedTo k (going b h) row out (record { year = year; wrote = w }) later
       not-taken n e p short = record {
         state = going true (afterBooking h (on d c));
@@ -216,30 +220,27 @@ module _ {y : Year} {b : Bool} {h : History} (i : In y (going b h)) where
         short = short;
       }
 
-      pub day-bad : dateOk (y .last .year) (y .last) d ≡ false → year ≡ atStage Going true y → Wrote out 0 (refusal k 11) w later → w ≤ pageRoom
+      pub day-bad : {year : Year} → dateOk (y .last .year) (y .last) d ≡ false → year ≡ atStage Going true y → Wrote out 0 (refusal k 11) w later → w ≤ pageRoom
           → SteppedTo k (going b h) row out (record { year = year; wrote = w }) later
       day-bad e q p short =
           let n : bookingNumber h (on d c) ≡ 11 = date-bad h d c (sym (ok-is d) ∙ e) in
           not-taken (λ z. omega arith) q (wrote-text (ap (spoken k) (sym n)) p) short
 
       module _ {a : Answer} (ok : dateOk (y .last .year) (y .last) d ≡ true) (did : a ≡ didOf mostMarks (y .sheet) c) where
-        day-number : bookingNumber h (on d c) ≡ a .number
-        day-number = date-good h d c (sym (ok-is d) ∙ ok) ∙ sym (ap (λ (x : Answer). x .number) (did-is did))
-
-        pub day-refused : (a .number ≡ 0 → ⊥) → year ≡ atStage Going true y → Wrote out 0 (spoken k (a .number)) w later → w ≤ pageRoom
+        pub day-refused : {year : Year} → (a .number ≡ 0 → ⊥) → year ≡ atStage Going true y → Wrote out 0 (spoken k (a .number)) w later → w ≤ pageRoom
             → SteppedTo k (going b h) row out (record { year = year; wrote = w }) later
-        day-refused n q p short = not-taken (λ z. n (sym day-number ∙ z)) q (wrote-text (ap (spoken k) (sym day-number)) p) short
+        day-refused n q p short = not-taken (λ z. n (sym (day-number d c ok did) ∙ z)) q (wrote-text (ap (spoken k) (sym (day-number d c ok did))) p) short
 
         pub day-taken : {totals : List ℕ} → a .number ≡ 0 → totals ≡ closedBefore (d .month) (monthTotal h) → Wrote out 0 (spoken k (a .number)) w later → w ≤ pageRoom
             → SteppedTo k (going b h) row out
-                (record { year = record { stage = Going; dated = true; sheet = a .sheet; last = d; closed = totals }; wrote = w }) later
+            (record { year = record { stage = Going; dated = true; sheet = a .sheet; last = d; closed = totals }; wrote = w }) later
         day-taken {totals} z t p short =
-            let z' : bookingNumber h (on d c) ≡ 0 = day-number ∙ z in
+            let z' : bookingNumber h (on d c) ≡ 0 = day-number d c ok did ∙ z in
             let here = last-now kept d c (sym (ok-is d) ∙ ok) in
             let taken : after (recordNow h) c ≡ accepted (recordNow h) c =
-            ap (λ (q : Bool). cond q (accepted (recordNow h) c) (recordNow h)) (eq-eqb (numberOf (recordNow h) c) 0 (sym (ap (λ (x : Answer). x .number) (did-is did)) ∙ z)) in
+            ap (λ (q : Bool). cond q (accepted (recordNow h) c) (recordNow h)) (eq-eqb (numberOf (recordNow h) c) 0 (sym (ap (λ (x : Answer). x .number) (did-is c did)) ∙ z)) in
             let sheet : a .sheet ≡ sheetOf entries (recordNow (withBooking h (on d c))) =
-            ap (λ (x : Answer). x .sheet) (did-is did) ∙ ap (sheetOf entries) (taken ∙ sym (record-more h (on d c))) in
+            ap (λ (x : Answer). x .sheet) (did-is c did) ∙ ap (sheetOf entries) (taken ∙ sym (record-more h (on d c))) in
             let closed : totals ≡ closedBefore (lastDate (withBooking h (on d c)) .month) (monthTotal (withBooking h (on d c))) =
             t ∙ closed-kept kept d c (sym (ok-is d) ∙ ok) ∙ ap (λ (e : Date). closedBefore (e .month) (monthTotal (withBooking h (on d c)))) (sym here) in
             let is : record { stage = Going; dated = true; sheet = a .sheet; last = d; closed = totals } ≡ yearWith Going true (withBooking h (on d c)) =
@@ -249,7 +250,7 @@ module _ {y : Year} {b : Bool} {h : History} (i : In y (going b h)) where
               said = spoken k (bookingNumber h (on d c));
               step = dated r;
               is = is ∙ ap (yearWith Going true) (sym (booked h (on d c) z'));
-              laid = wrote-text (ap (spoken k) (sym day-number)) p;
+              laid = wrote-text (ap (spoken k) (sym (day-number d c ok did))) p;
               short = short;
             }
 

@@ -22,37 +22,38 @@ abbrev μ-loop : tie.MeasureT-loop
 
 loop-holds : tie.Need-loop-holds Inv-loop μ-loop
 unfolding monthRows
-loop-holds c = let s = c .before in (omega arith, refl, omega arith, wrote-none (s .args .out .now) (s .args .at))
+loop-holds c = let s = (c .before .before) in (omega arith, refl, omega arith, wrote-none (s .args .out .now) (s .args .at))
 
 mul-seconds : tie.Need-mul-seconds Inv-loop μ-loop
 mul-seconds c = omega arith
 
-array-read-seconds : tie.Need-array-read-seconds Inv-loop μ-loop
-array-read-seconds c = omega arith
+shared-slice-read-seconds : tie.Need-shared-slice-read-seconds Inv-loop μ-loop
+shared-slice-read-seconds c = let s = (c .before .before .before .before .before) in omega (arith, s .pre .0)
 
 add-month : tie.Need-add-month Inv-loop μ-loop
 add-month c = omega arith
 
 put-row-requires : tie.Need-put-row-requires Inv-loop μ-loop
-put-row-requires c κs = let s = c .before .before .before .before in let l = c .before .before .loop in (omega arith, omega (arith, s .pre, l .inv .1, l .inv .2))
+put-row-requires c κs = let s = (c .before .before .before .before .before .before) in let l = c .before .before .before .loop in (omega arith, omega (arith, s .pre .1, l .inv .1, l .inv .2))
 
 loop-less : tie.Need-loop-less Inv-loop μ-loop
 loop-less c = omega arith
 
 loop-again : tie.Need-loop-again Inv-loop μ-loop
 loop-again c =
-    let s = c .before .before .before .before .before .before .before in
-    let l = c .before .before .before .before .before .loop in
+    let s = (c .before .before .before .before .before .before .before .before .before) in
+    let l = c .before .before .before .before .before .before .loop in
     let f = monthIn (s .args .totals .now) in
     let z : l .month + 1 - 1 ≡ l .month = omega arith in
     let x = getD (s .args .totals .now) (l .month) 0 in
     let w = c .before .before .put-row .ensures in
-    let small = row-length (l .month + 1) x (omega arith) in (
+    let h = c .before .before .before .before .shared-slice-known2 .given (l .month) in
+    let small = row-length (l .month + 1) x (omega (arith, h)) in (
       omega arith,
-      wrote-length w (omega (arith, s .pre, l .inv .1, l .inv .2)) ∙ l .inv .1,
+      wrote-length w (omega (arith, s .pre .1, l .inv .1, l .inv .2)) ∙ l .inv .1,
       omega (arith, w .place, l .inv .2),
       wrote-text (ap (λ (y : ℕ). monthRows f (l .month) ++ monthRow (l .month + 1) (getD (s .args .totals .now) y 0)) (sym z) ∙ sym (rows-more f (l .month)))
-          (wrote-then (l .inv .3) w (omega (arith, s .pre, l .inv .3 .place, l .inv .2))),
+          (wrote-then (l .inv .3) w (omega (arith, s .pre .1, l .inv .3 .place, l .inv .2))),
     )
 
 same-length : tie.Need-same-length Inv-loop μ-loop
@@ -60,11 +61,11 @@ same-length c = c .before .loop .inv .1
 
 returns : tie.Need-returns Inv-loop μ-loop
 returns c =
-    let s = c .before .before .before in
+    let s = (c .before .before .before .before) in
     let l = c .before .loop in
     let e : l .month ≡ 12 = omega arith in
     (omega (arith, l .inv .2), wrote-text (ap (monthRows (monthIn (s .args .totals .now))) e) (l .inv .3))
 
 pub put-rows-spec : {M : Type 1} → statement M
 put-rows-spec = tie.close (tie.spec
-    Inv-loop μ-loop loop-holds mul-seconds array-read-seconds add-month put-row-requires loop-less loop-again same-length returns)
+    Inv-loop μ-loop loop-holds mul-seconds shared-slice-read-seconds add-month put-row-requires loop-less loop-again same-length returns)

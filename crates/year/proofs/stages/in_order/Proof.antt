@@ -1,31 +1,19 @@
+-- By each of the three tests.
+use mathlib.Core.Path.{_≡_, sym, ap, _∙_}
+use mathlib.Core.Bool.{true, false, not}
 use borrow.Author.Needs.{needs}
+use borrow.Author.Tests.{eq-eqb, ne-eqb, not-true, not-false}
 use Rattle.year.proofs.stages.in_order.Statement.{statement}
 use Rattle.year.proofs.stages.in_order.Tie as tie
-use Rattle.year.proofs.stages.in_order.Reads as reads
-use Rattle.year.proofs.stages.in_order.Lts as lts
-use Rattle.dates.proofs.date.Date.is_day.Reads as is-day-reads
-use Rattle.dates.proofs.date.Date.is_earlier.Reads as is-earlier-reads
 
--- src/stages.rt:120:9
-is-day-requires : tie.Need-is-day-requires
-is-day-requires c κs = search needs
-
--- src/stages.rt:121:9
 returns : tie.Need-returns
-returns c = ?
+returns c = let e : c .before .is-day .result ≡ false = not-true _ (c .if1 .taken) in rw (sym (c .before .is-day .ensures) ∙ e)
 
--- src/stages.rt:124:9
 returns-2 : tie.Need-returns-2
-returns-2 c = ?
+returns-2 c = let e : c .before .before .before .before .is-day .result ≡ true = not-false _ (c .before .before .before .if1 .left) in rw (sym (c .before .before .before .before .is-day .ensures) ∙ e, ne-eqb _ _ (c .if2 .taken))
 
--- src/stages.rt:126:6
-is-earlier-requires : tie.Need-is-earlier-requires
-is-earlier-requires c κs = search needs
-
--- src/stages.rt:117:1
 returns-3 : tie.Need-returns-3
-returns-3 c = ?
+returns-3 c = let e : c .before .before .before .before .before .is-day .result ≡ true = not-false _ (c .before .before .before .before .if1 .left) in rw (sym (c .before .before .before .before .before .is-day .ensures) ∙ e, eq-eqb _ _ (c .before .if2 .left)) (ap not (c .is-earlier .ensures))
 
 pub in-order-spec : {M : Type 1} → statement M
-in-order-spec =
-    tie.close (tie.spec is-day-requires returns returns-2 is-earlier-requires returns-3)
+in-order-spec = tie.close (tie.spec (λ c κs. search needs) returns returns-2 (λ c κs. search needs) returns-3)

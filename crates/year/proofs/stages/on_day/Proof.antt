@@ -1,76 +1,46 @@
+-- By the date, and then by the call's own answer.
+use mathlib.Core.Path.{_≡_, refl, sym, _∙_}
+use mathlib.Core.Bool.{true, false}
+use native.Mathlib.Omega.{arith}
 use borrow.Author.Needs.{needs}
+use borrow.Author.Tests.{not-true, not-false}
+use Rattle.machine.proofs.Laid.{spoken-short}
+use Rattle.dates.proofs.Calendar.{day-month}
+use Rattle.bookings.proofs.Bookings.{ok-day, ok-month}
+use Rattle.year.proofs.Steps.{day-bad, day-refused, day-taken}
 use Rattle.year.proofs.stages.on_day.Statement.{statement}
 use Rattle.year.proofs.stages.on_day.Tie as tie
-use Rattle.year.proofs.stages.on_day.Reads as reads
-use Rattle.year.proofs.stages.on_day.Lts as lts
-use Rattle.machine.proofs.refusal.Reads as refusal-reads
-use Rattle.machine.proofs.spoken.Reads as spoken-reads
-use Rattle.sheet.proofs.Sheet.did.Reads as did-reads
-use Rattle.year.proofs.stages.Year.at_stage.Reads as at-stage-reads
-use Rattle.year.proofs.stages.in_order.Reads as in-order-reads
-use Rattle.year.proofs.stages.totals_to.Reads as totals-to-reads
 
--- src/stages.rt:184:9
-at-stage-requires : tie.Need-at-stage-requires
-at-stage-requires c κs = search needs
-
--- src/stages.rt:186:9
-in-order-requires : tie.Need-in-order-requires
-in-order-requires c κs = search needs
-
--- src/stages.rt:187:13
-refusal-requires : tie.Need-refusal-requires
-refusal-requires c κs = search needs
-
--- src/stages.rt:188:9
-same-length : tie.Need-same-length
-same-length c = search needs
-
--- src/stages.rt:188:9
 returns : tie.Need-returns
-returns c = ?
+returns c =
+    λ b h row i r.
+    let e : c .before .before .before .before .before .in-order .result ≡ false = not-true _ (c .before .before .before .before .if1 .taken) in
+    day-bad i r (sym (c .before .before .before .before .before .in-order .ensures) ∙ e) (c .before .before .before .before .before .before .before .at-stage .ensures) (c .before .before .refusal .ensures)
+    (spoken-short (c .before .before .before .before .before .before .before .before .before .args .number) 11 (c .before .before .refusal .ensures) (omega arith) (omega arith))
 
--- src/stages.rt:191:9
-did-requires : tie.Need-did-requires
-did-requires c κs = search needs
-
--- src/stages.rt:192:9
-spoken-requires : tie.Need-spoken-requires
-spoken-requires c κs = search needs
-
--- src/stages.rt:194:9
-same-length-2 : tie.Need-same-length-2
-same-length-2 c = search needs
-
--- src/stages.rt:194:9
 returns-2 : tie.Need-returns-2
-returns-2 c = ?
+returns-2 c =
+    λ b h row i r.
+    let e : c .before .before .before .before .before .before .before .before .before .in-order .result ≡ true = not-false _ (c .before .before .before .before .before .before .before .before .if1 .left) in
+    day-refused i r (sym (c .before .before .before .before .before .before .before .before .before .in-order .ensures) ∙ e) (c .before .before .before .before .before .before .did .ensures) (c .if2 .taken) (c .before .before .before .before .before .before .before .before .before .before .before .at-stage .ensures) (c .before .before .before .before .spoken .ensures)
+    (spoken-short (c .before .before .before .before .before .before .before .before .before .before .before .before .before .args .number) (c .before .before .before .before .before .before .did .result .number) (c .before .before .before .before .spoken .ensures) (omega arith) (omega arith))
 
--- src/stages.rt:196:9
 totals-to-requires : tie.Need-totals-to-requires
-totals-to-requires c κs = ?
+totals-to-requires c κs =
+    let s = (c .before .before .before .before .before .before .before .before .before .before .before .before .before) in
+    let e : c .before .before .before .before .before .before .before .before .before .in-order .result ≡ true = not-false _ (c .before .before .before .before .before .before .before .before .if1 .left) in
+    let ok = sym (c .before .before .before .before .before .before .before .before .before .in-order .ensures) ∙ e in
+    let day = day-month (s .args .date) (ok-day _ (s .args .y .last) (s .args .date) ok) in
+    (s .pre .0, (ok-month _ (s .args .y .last) (s .args .date) ok refl, omega (arith, day .1)))
 
--- src/stages.rt:179:1
-same-length-3 : tie.Need-same-length-3
-same-length-3 c = search needs
-
--- src/stages.rt:179:1
 returns-3 : tie.Need-returns-3
-returns-3 c = ?
+returns-3 c =
+    λ b h row i r.
+    let e : c .before .before .before .before .before .before .before .before .before .before .before .in-order .result ≡ true = not-false _ (c .before .before .before .before .before .before .before .before .before .before .if1 .left) in
+    day-taken i r (sym (c .before .before .before .before .before .before .before .before .before .before .before .in-order .ensures) ∙ e) (c .before .before .before .before .before .before .before .before .did .ensures) (c .before .before .if2 .left) (c .before .totals-to .ensures b h i) (c .before .before .before .before .before .before .spoken .ensures)
+    (spoken-short (c .before .before .before .before .before .before .before .before .before .before .before .before .before .before .before .args .number) (c .before .before .before .before .before .before .before .before .did .result .number) (c .before .before .before .before .before .before .spoken .ensures) (omega arith) (omega arith))
 
 pub on-day-spec : {M : Type 1} → statement M
-on-day-spec =
-    tie.close
-    (tie.spec
-    at-stage-requires
-    in-order-requires
-    refusal-requires
-    same-length
-    returns
-    did-requires
-    spoken-requires
-    same-length-2
-    returns-2
-    totals-to-requires
-    same-length-3
-    returns-3)
+on-day-spec = tie.close (tie.spec
+    (λ c κs. search needs) (λ c κs. search needs) (λ c κs. search needs) (λ c. search needs) returns (λ c κs. search needs)
+    (λ c κs. search needs) (λ c. search needs) returns-2 totals-to-requires (λ c. search needs) returns-3)

@@ -1,83 +1,25 @@
+-- By the stage.
 use borrow.Author.Needs.{needs}
+use Rattle.year.proofs.Steps.{goes-on, step-first, step-marks, step-later, step-over}
 use Rattle.year.proofs.stages.step.Statement.{statement}
 use Rattle.year.proofs.stages.step.Tie as tie
-use Rattle.year.proofs.stages.step.Reads as reads
-use Rattle.year.proofs.stages.step.Lts as lts
-use Rattle.year.proofs.stages.later_line.Reads as later-line-reads
-use Rattle.year.proofs.stages.marks_line.Reads as marks-line-reads
-use Rattle.year.proofs.stages.year_line.Reads as year-line-reads
 
--- src/stages.rt:283:42
-enum-told : tie.Need-enum-told
-enum-told c = search needs
-
--- src/stages.rt:283:26
-year-line-requires : tie.Need-year-line-requires
-year-line-requires c κs = search needs
-
--- src/stages.rt:284:55
-enum-told-2 : tie.Need-enum-told-2
-enum-told-2 c = search needs
-
--- src/stages.rt:284:27
-marks-line-requires : tie.Need-marks-line-requires
-marks-line-requires c κs = search needs
-
--- src/stages.rt:285:45
-enum-told-3 : tie.Need-enum-told-3
-enum-told-3 c = search needs
-
--- src/stages.rt:285:25
 later-line-requires : tie.Need-later-line-requires
-later-line-requires c κs = ?
+later-line-requires c κs = let s = (c .before .before .before .before .before) in (goes-on (s .pre .0 .0) (s .pre .0 .1) (c .before .enum-told3 .given .1), s .pre .1)
 
--- src/stages.rt:286:24
-enum-told-4 : tie.Need-enum-told-4
-enum-told-4 c = search needs
-
--- src/stages.rt:274:1
-same-length : tie.Need-same-length
-same-length c = search needs
-
--- src/stages.rt:274:1
 returns : tie.Need-returns
-returns c = ?
+returns c = λ s i. step-first s i (c .before .before .before .before .enum-told .given .1) (c .before .before .year-line .ensures)
 
--- src/stages.rt:274:1
-same-length-2 : tie.Need-same-length-2
-same-length-2 c = search needs
-
--- src/stages.rt:274:1
 returns-2 : tie.Need-returns-2
-returns-2 c = ?
+returns-2 c = λ s i. step-marks s i (c .before .before .before .before .enum-told2 .given .1) (c .before .before .marks-line .ensures)
 
--- src/stages.rt:274:1
-same-length-3 : tie.Need-same-length-3
-same-length-3 c = search needs
-
--- src/stages.rt:274:1
 returns-3 : tie.Need-returns-3
-returns-3 c = ?
+returns-3 c = λ s i. step-later s i (c .before .before .before .before .enum-told3 .given .1) (c .before .before .later-line .ensures)
 
--- src/stages.rt:274:1
 returns-4 : tie.Need-returns-4
-returns-4 c = ?
+returns-4 c = λ s i. step-over s i (c .enum-told4 .given .1)
 
 pub step-spec : {M : Type 1} → statement M
-step-spec =
-    tie.close
-    (tie.spec
-    enum-told
-    year-line-requires
-    enum-told-2
-    marks-line-requires
-    enum-told-3
-    later-line-requires
-    enum-told-4
-    same-length
-    returns
-    same-length-2
-    returns-2
-    same-length-3
-    returns-3
-    returns-4)
+step-spec = tie.close (tie.spec
+    (λ c. search needs) (λ c κs. search needs) (λ c. search needs) (λ c κs. search needs) (λ c. search needs) later-line-requires
+    (λ c. search needs) (λ c. search needs) returns (λ c. search needs) returns-2 (λ c. search needs) returns-3 returns-4)

@@ -1,26 +1,19 @@
+-- The months that are over since the last accepted date, if any, have the total of the sheet.
+use mathlib.Core.Path.{_∙_}
+use native.Mathlib.Omega.{arith}
 use borrow.Author.Needs.{needs}
+use Rattle.year.proofs.Steps.{month-few, totals-same, totals-more}
 use Rattle.year.proofs.stages.totals_to.Statement.{statement}
 use Rattle.year.proofs.stages.totals_to.Tie as tie
-use Rattle.year.proofs.stages.totals_to.Reads as reads
-use Rattle.year.proofs.stages.totals_to.Lts as lts
-use Rattle.listing.proofs.total.Reads as total-reads
-use Rattle.year.proofs.page.close_months.Reads as close-months-reads
 
--- src/stages.rt:142:9
 returns : tie.Need-returns
-returns c = ?
+returns c = λ b h i. totals-same i (c .if1 .taken)
 
--- src/stages.rt:144:9
-total-requires : tie.Need-total-requires
-total-requires c κs = search needs
-
--- src/stages.rt:145:5
 close-months-requires : tie.Need-close-months-requires
-close-months-requires c κs = ?
+close-months-requires c κs = let s = (c .before .before .before .before .before .before) in (month-few (s .pre .0 .2) .0, s .pre .1 .0, s .pre .1 .1)
 
--- src/stages.rt:134:1
 returns-2 : tie.Need-returns-2
-returns-2 c = ?
+returns-2 c = λ b h i. let s = (c .before .before .before .before .before .before .before) in totals-more i (c .before .total .ensures) (s .pre .1 .0) (c .close-months .ensures)
 
 pub totals-to-spec : {M : Type 1} → statement M
-totals-to-spec = tie.close (tie.spec returns total-requires close-months-requires returns-2)
+totals-to-spec = tie.close (tie.spec returns (λ c κs. search needs) close-months-requires returns-2)

@@ -1,64 +1,20 @@
+-- As line 1 names the year, or does not.
+use native.Mathlib.Omega.{arith}
 use borrow.Author.Needs.{needs}
+use Rattle.machine.proofs.Laid.{spoken-short}
+use Rattle.year.proofs.Steps.{line-named, line-nameless}
 use Rattle.year.proofs.stages.year_line.Statement.{statement}
 use Rattle.year.proofs.stages.year_line.Tie as tie
-use Rattle.year.proofs.stages.year_line.Reads as reads
-use Rattle.year.proofs.stages.year_line.Lts as lts
-use Rattle.machine.proofs.refusal.Reads as refusal-reads
-use Rattle.sheet.proofs.Sheet.opened.Reads as opened-reads
-use Rattle.year.proofs.stages.begun.Reads as begun-reads
-use Rattle.year_lines.proofs.year_of.Reads as year-of-reads
 
--- src/stages.rt:115:9
-year-of-requires : tie.Need-year-of-requires
-year-of-requires c κs = search needs
-
--- src/stages.rt:116:9
-opened-requires : tie.Need-opened-requires
-opened-requires c κs = search needs
-
--- src/stages.rt:117:21
-enum-known-name : tie.Need-enum-known-name
-enum-known-name c = search needs
-
--- src/stages.rt:118:38
-enum-told : tie.Need-enum-told
-enum-told c = search needs
-
--- src/stages.rt:118:13
-refusal-requires : tie.Need-refusal-requires
-refusal-requires c κs = search needs
-
--- src/stages.rt:119:13
-begun-requires : tie.Need-begun-requires
-begun-requires c κs = search needs
-
--- src/stages.rt:120:9
-same-length : tie.Need-same-length
-same-length c = search needs
-
--- src/stages.rt:120:9
 returns : tie.Need-returns
-returns c = ?
+returns c =
+    line-nameless (c .before .before .before .before .before .before .before .before .year-of .ensures) (c .before .before .before .before .before .enum-told .given .1) (c .before .before .before .before .before .before .before .opened .ensures) (c .begun .ensures) (c .before .before .before .refusal .ensures)
+    (spoken-short (c .before .before .before .before .before .before .before .before .before .before .args .line .number) 10 (c .before .before .before .refusal .ensures) (omega arith) (omega arith))
 
--- src/stages.rt:122:9
-begun-requires-2 : tie.Need-begun-requires-2
-begun-requires-2 c κs = search needs
-
--- src/stages.rt:110:1
 returns-2 : tie.Need-returns-2
-returns-2 c = ?
+returns-2 c = line-named (c .before .before .before .before .before .year-of .ensures) (c .before .before .name .given .1) (c .before .before .before .before .opened .ensures) (c .begun2 .ensures)
 
 pub year-line-spec : {M : Type 1} → statement M
-year-line-spec =
-    tie.close
-    (tie.spec
-    year-of-requires
-    opened-requires
-    enum-known-name
-    enum-told
-    refusal-requires
-    begun-requires
-    same-length
-    returns
-    begun-requires-2
-    returns-2)
+year-line-spec = tie.close (tie.spec
+    (λ c κs. search needs) (λ c κs. search needs) (λ c. search needs) (λ c. search needs) (λ c κs. search needs) (λ c κs. search needs)
+    (λ c. search needs) returns (λ c κs. search needs) returns-2)
