@@ -13,9 +13,8 @@ use Rattle.histories.specs.Histories.{Good, numberOf, after}
 use Rattle.histories.proofs.Goods.{good-after, good-opened}
 use Rattle.machine.specs.Rows.{Row}
 use Rattle.machine.specs.Machine.{refusal, spoken}
-use Rattle.machine.specs.Pieces.{Position, stateIn, Takes}
 use Rattle.machine.specs.Answers.{OneAnswer, SomeAnswer}
-use Rattle.machine.proofs.Outputs.{can-takes, one-output}
+use Rattle.machine.proofs.Outputs.{can-step, one-output}
 use Rattle.lines.specs.declared.Order.{Order}
 use Rattle.lines.specs.declared.Order.the-variants.{Make, End, Unreadable}
 use Rattle.lines.specs.declared.First.{First}
@@ -113,9 +112,9 @@ some-answer : SomeAnswer holdings
 some-answer = record { Can = λ s. Good (recordIn s); start = good-one; step = step-some; stop = stop-some }
 
 -- records stay good
-pub good-takes : {p q : Position holdings} {a said : List ℕ} → Takes holdings p a q said → Good (recordIn (stateIn p)) → Good (recordIn (stateIn q))
+pub good-step : {k : ℕ} {s t : State} {row : Row} {now : List ℕ} → Step k s row t now → Good (recordIn s) → Good (recordIn t)
 unfolding some-answer
-good-takes t g = can-takes one-answer some-answer t g
+good-step e g = can-step one-answer some-answer e g
 
 pub exactly-one : (input : List ℕ) → (output : List ℕ) × Prints input output × ((other : List ℕ) → Prints input other → other ≡ output)
 exactly-one input = one-output one-answer some-answer input

@@ -27,8 +27,8 @@ use Rattle.lines.specs.declared.First.the-variants.{Marks, NotMarks}
 use Rattle.lines.specs.Words.{RowAsks, RowOpens}
 use Rattle.lines.proofs.Settled.{row-opens-settled}
 use Rattle.desk.specs.Prints.{firstNumber, firstRecord, State, first, going, over, opens, shut, made, unread, ended, Step, Stop, holdings}
-use Rattle.desk.specs.States.{recordIn, stageIn, In}
-use Rattle.desk.specs.Parts.{OfRecord, ledTo, FirstAnswered, SteppedTo, Printed}
+use Rattle.desk.specs.States.{recordIn, stageIn, In, SteppedTo}
+use Rattle.desk.specs.Parts.{OfRecord, ledTo, FirstAnswered, Printed}
 use Rattle.desk.proofs.Outputs.{one-answer}
 use Rattle.desk.specs.declared.stages.Stage.{Stage}
 use Rattle.desk.specs.declared.stages.Stage.the-variants.{Opening, Going, Over}

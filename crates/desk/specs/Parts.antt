@@ -10,11 +10,9 @@ use Rattle.sheet.specs.declared.Sheet.{Sheet}
 use Rattle.sheet.specs.declared.Answer.{Answer}
 use Rattle.histories.specs.Histories.{Good}
 use Rattle.machine.specs.Rows.{Row}
-use Rattle.machine.specs.Steps.{SteppedBy}
 use Rattle.lines.specs.declared.First.{First}
 use Rattle.lines.specs.Words.{RowOpens}
-use Rattle.desk.specs.Prints.{Result, firstNumber, firstRecord, State, holdings}
-use Rattle.desk.specs.States.{deskOf}
+use Rattle.desk.specs.Prints.{Result, firstNumber, firstRecord}
 use Rattle.desk.specs.declared.stages.Stage.{Stage}
 use Rattle.desk.specs.declared.stages.Stepped.{Stepped}
 
@@ -34,10 +32,6 @@ pub record FirstAnswered (row : Row) (a : Answer) : Type 0 where
   pub says : First
   pub opens : RowOpens row says
   pub is : a ≡ record { number = firstNumber says; sheet = sheetOf entries (firstRecord says) }
-
--- line k was taken in this state
-abbrev pub SteppedTo : ℕ → State → Row → List ℕ → Stepped → List ℕ → Type 0
-SteppedTo k s row out r later = SteppedBy holdings deskOf k s row out (r .desk) (r .wrote) later
 
 -- room for the two lines in front of the list, for a line with a time, and for the result
 abbrev pub headsRoom : ℕ

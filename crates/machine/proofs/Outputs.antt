@@ -58,13 +58,8 @@ module _ {M : Machine} (one : OneAnswer M) where
 
   module _ (all : SomeAnswer M) where
     -- it stays in states that it can be in
-    can-step : {k : ℕ} {s t : M .State} {row : Row} {now : List ℕ} → M .step k s row t now → all .Can s → all .Can t
+    pub can-step : {k : ℕ} {s t : M .State} {row : Row} {now : List ℕ} → M .step k s row t now → all .Can s → all .Can t
     can-step {k} {s} {row = row} e c = let w = all .step k s row c in subst (all .Can) (one .step (w .2) e .0) (w .3)
-
-    pub can-takes : {p q : Position M} {a said : List ℕ} → Takes M p a q said → all .Can (stateIn p) → all .Can (stateIn q)
-    can-takes none c = c
-    can-takes (byte n p) c = can-takes p c
-    can-takes (newline e p) c = can-takes p (can-step e c)
 
     onward-some : (k : ℕ) (s : M .State) (l : List Row) → all .Can s → (text : List ℕ) × Onward M k s l text
     onward-some k s [] c = let t = all .stop s c in (t .0, stopped (t .1))
@@ -75,3 +70,10 @@ module _ {M : Machine} (one : OneAnswer M) where
 
     pub one-output : (input : List ℕ) → (output : List ℕ) × Output M input output × ((other : List ℕ) → Output M input other → other ≡ output)
     one-output input = let t = onward-some 1 (M .start) (rows input) (all .start) in (t .0, t .1, λ other p. onward-one p (t .1))
+
+-- what every line keeps, bytes that are taken keep
+pub takes-kept : {M : Machine} (P : M .State → Type 0) → ((k : ℕ) (s t : M .State) (row : Row) (now : List ℕ) → M .step k s row t now → P s → P t)
+    → {p q : Position M} {a said : List ℕ} → Takes M p a q said → P (stateIn p) → P (stateIn q)
+takes-kept P kept none c = c
+takes-kept P kept (byte n p) c = takes-kept P kept p c
+takes-kept P kept (newline e p) c = takes-kept P kept p (kept _ _ _ _ _ e c)

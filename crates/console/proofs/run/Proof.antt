@@ -2,23 +2,25 @@
 use Prim.Native.Nat.{_+_, _*_, _^_, _<_}
 use native.Mathlib.Omega.{arith}
 use Rattle.machine.specs.Pieces.{start}
-use Rattle.desk.specs.Prints.{holdings}
-use Rattle.desk.specs.States.{DeskStands}
-use Rattle.desk.proofs.Desks.{at-number}
-use Rattle.holdings.proofs.main.Statement.{statement}
-use Rattle.holdings.proofs.main.Tie as tie
+use Rattle.sessions.specs.Programs.{machineOf}
+use Rattle.sessions.specs.Sessions.{Stands}
+use Rattle.sessions.proofs.Sessions.{at-number}
+use Rattle.console.proofs.run.Statement.{statement}
+use Rattle.console.proofs.run.Tie as tie
 
 abbrev Inv-loop : tie.InvT-loop
-Inv-loop desk₀ turns₀ desk turns = DeskStands desk × (desk .line .number + turns * 4096 < 2 ^ 63)
+Inv-loop session₀ turns₀ session turns = Stands session × (session .line .number + turns * 4096 < 2 ^ 63)
 
 abbrev μ-loop : tie.MeasureT-loop
-μ-loop desk₀ turns₀ desk turns = turns
+μ-loop session₀ turns₀ session turns = turns
 
 new-requires : tie.Need-new-requires Inv-loop μ-loop
 new-requires c κs = tt
 
 loop-holds : tie.Need-loop-holds Inv-loop μ-loop
-loop-holds c = ((start holdings, c .new .ensures), omega (arith, at-number (start holdings) (c .new .ensures)))
+loop-holds c =
+    let k = c .before .args .kind in
+    ((k, start (machineOf k), c .new .ensures), omega (arith, at-number k (start (machineOf k)) (c .new .ensures)))
 
 turn-requires : tie.Need-turn-requires Inv-loop μ-loop
 turn-requires c κs = (c .before .loop .inv .0, omega (arith, c .before .loop .inv .1))
@@ -41,8 +43,8 @@ loop-again c =
 returns-2 : tie.Need-returns-2 Inv-loop μ-loop
 returns-2 c = tt
 
-pub main-spec : {M : Type 1} → statement M
-main-spec =
+pub run-spec : {M : Type 1} → statement M
+run-spec =
     tie.close
     (tie.spec
     Inv-loop

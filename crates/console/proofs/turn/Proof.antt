@@ -2,9 +2,9 @@
 use mathlib.Core.Bool.{true≢false}
 use native.Mathlib.Omega.{arith}
 use borrow.Author.Needs.{needs}
-use Rattle.desk.proofs.Desks.{took-number}
-use Rattle.holdings.proofs.turn.Statement.{statement}
-use Rattle.holdings.proofs.turn.Tie as tie
+use Rattle.sessions.proofs.Sessions.{took-number}
+use Rattle.console.proofs.turn.Statement.{statement}
+use Rattle.console.proofs.turn.Tie as tie
 
 returns : tie.Need-returns
 returns c = λ e. absurd (true≢false e)
@@ -16,10 +16,11 @@ returns-3 : tie.Need-returns-3
 returns-3 c =
     λ e.
     let s = c .before .before .before .before .before .before .before .before .before .before in
-    let w = c .serve .ensures e (s .pre .0 .0) (s .pre .0 .1) in
-    let n = took-number (s .pre .0 .1) w in
+    let a = s .pre .0 in
+    let w = c .serve .ensures e (a .0) (a .1) (a .2) in
+    let n = took-number (a .0) (a .2) w in
     let k = c .before .before .before .count .ensures .0 in
-    ((w .position, w .at), omega (arith, n, k .0, k .1, c .before .before .before .before .before .before .before .read .kept .1 .0, c .before .before .before .before .before .before .before .before .before .buffer .ensures))
+    ((a .0, w .position, w .at), omega (arith, n, k .0, k .1, c .before .before .before .before .before .before .before .read .kept .1 .0, c .before .before .before .before .before .before .before .before .before .buffer .ensures))
 
 pub turn-spec : {M : Type 1} → statement M
 turn-spec = tie.close (tie.spec
