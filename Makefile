@@ -1,10 +1,10 @@
-# make            the library, target/staticlib/libvault.a, and the desk program, target/bin/holdings: proved, then compiled (for x86-64)
-# make sample     the desk program on a sample session
+# make            the library, target/staticlib/libvault.a, and the desk programs, target/bin/holdings and months: proved, then compiled (for x86-64)
+# make sample     each desk program on a sample session
 # make test       the tests outside the proofs (CALLS=400000 random calls from SEED=1)
 # make check      everything: the gate proves all from nothing, then the tests run on an archive made of what was just proved
 # make bench      the library's times beside plain C's and glpk's (MODULE=1: of its module compiled for the host, as is done on other processors)
 # make sanitize   the library and the C programs of tests/ and examples/ under AddressSanitizer, UBSan and valgrind (see tests/sanitize)
-# make install    library, headers, program and manual pages, to PREFIX=/usr/local (DESTDIR=.. in front of it)
+# make install    library, headers, programs and manual pages, to PREFIX=/usr/local (DESTDIR=.. in front of it)
 # make uninstall  takes away what install put there
 # make clean      removes target/, where all that is built lies, the proofs' results too
 # make help       these lines
@@ -15,12 +15,13 @@ SEED ?= 1
 VERSION := $(shell sed -n 's/^.define VAULT_VERSION_[A-Z]* \([0-9]*\)$$/\1/p' include/vault.h | paste -s -d .)
 
 library := target/staticlib/libvault.a
-program := target/bin/holdings
+programs := target/bin/holdings target/bin/months
 sources := $(wildcard crates/*/src/*.rt crates/*/specs/*.antt crates.txt)
 place = $(DESTDIR)$(PREFIX)
-installed := include/vault.h include/vault_util.h lib/libvault.a lib/pkgconfig/vault.pc bin/holdings share/man/man1/holdings.1 share/man/man3/vault.3
+installed := include/vault.h include/vault_util.h lib/libvault.a lib/pkgconfig/vault.pc bin/holdings bin/months share/man/man1/holdings.1 \
+	share/man/man1/months.1 share/man/man3/vault.3
 
-all: $(library) $(program)
+all: $(library) $(programs)
 
 # rt proves what changed since it was last proved, and builds only what it proved. After the gate nothing has changed: the layers below are
 # taken as they are, and `vault` alone, which is thin, is checked again, since rt makes an archive in the run that proves it.
@@ -35,12 +36,12 @@ target/host/%.o target/asan/%.o: $(sources)
 native = $(if $(filter x86_64,$(MODULE)$(shell uname -m)),target/staticlib/lib$(1).a,target/host/$(1).o)
 
 # rt leaves a program as it is if nothing in it changed: touch says that it is not older than its sources.
-$(program): $(sources)
-	rt check holdings
+$(programs): target/bin/%: $(sources)
+	rt check $*
 	@touch $@
 
-sample: $(program)
-	@tools/x86 run $(program) <crates/holdings/stdin
+sample: $(programs)
+	@for name in holdings months; do echo "$$name:" && tools/x86 run target/bin/$$name <crates/$$name/stdin || exit; done
 
 test: all
 	@tests/run $(CALLS) $(SEED)
@@ -60,8 +61,10 @@ install: all
 	install -D -m 644 include/vault_util.h $(place)/include/vault_util.h
 	install -D -m 644 $(library) $(place)/lib/libvault.a
 	install -D -m 644 target/vault.pc $(place)/lib/pkgconfig/vault.pc
-	install -D -m 755 $(program) $(place)/bin/holdings
+	install -D -m 755 target/bin/holdings $(place)/bin/holdings
+	install -D -m 755 target/bin/months $(place)/bin/months
 	install -D -m 644 man/holdings.1 $(place)/share/man/man1/holdings.1
+	install -D -m 644 man/months.1 $(place)/share/man/man1/months.1
 	install -D -m 644 man/vault.3 $(place)/share/man/man3/vault.3
 
 uninstall:

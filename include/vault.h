@@ -55,7 +55,7 @@ extern "C" {
 #define VAULT_DOTTED_VALUES(a, b, c) VAULT_DOTTED(a, b, c)
 #define VAULT_VERSION VAULT_DOTTED_VALUES(VAULT_VERSION_MAJOR, VAULT_VERSION_MINOR, VAULT_VERSION_PATCH)
 
-/* The answers. */
+/* The answers. The program months has one more, 11, for a date; no entry gives it. */
 enum vault_answer {
     VAULT_DONE = 0,        /* done */
     VAULT_MARKS = 1,       /* opening or reading with marks not 1 to 5 */

@@ -7,8 +7,10 @@
 //! starts PROGRAM and speaks with it through pipes. It prints what was compared, and ends with status 1 at the first difference.
 
 mod model;
+mod random;
 
 use model::{cube, done, is_before, pla, read_pla, refused, Lists, Reply, Sheet, Times, MOST_AMOUNT, MOST_HELD};
+use random::Random;
 use std::io::{Read, Write};
 use std::process::{Child, Command, Stdio};
 
@@ -24,34 +26,6 @@ const ODD_LINES: [&str; 48] = [".ilb a b", ".ob z", ".type fd", ".names a b", ".
 
 /// Bytes that have a meaning, or look as if they had one.
 const SIGNS: &[u8] = b"01-.iope#0123456789 \t\n\r\0\x0b\x0c\x1a\x7f\x80\xff2~|";
-
-/// xorshift64*: the same calls for the same seed, everywhere.
-struct Random(u64);
-
-impl Random {
-    fn next(&mut self) -> u64 {
-        self.0 ^= self.0 >> 12;
-        self.0 ^= self.0 << 25;
-        self.0 ^= self.0 >> 27;
-        self.0.wrapping_mul(0x2545_f491_4f6c_dd1d) >> 11
-    }
-
-    fn below(&mut self, n: u64) -> u64 {
-        self.next() % n
-    }
-
-    fn one_in(&mut self, n: u64) -> bool {
-        self.below(n) == 0
-    }
-
-    fn of<T: Copy>(&mut self, choices: &[T]) -> T {
-        choices[self.below(choices.len() as u64) as usize]
-    }
-
-    fn bytes(&mut self, n: u64) -> Vec<u8> {
-        (0..n).map(|_| self.next() as u8).collect()
-    }
-}
 
 /// An area that is lent, and what stands around it.
 #[derive(Clone, Debug)]
@@ -619,7 +593,7 @@ fn main() {
     let calls: u64 = words[1].parse().expect("a number of calls");
     let seed: u64 = words[2].parse().expect("a seed");
     let mut child = started(&words[3..]);
-    let mut tests = Tests { r: Random(seed.wrapping_mul(2) + 1), lists: Lists::new(), times: Times::new(), pool: Vec::new() };
+    let mut tests = Tests { r: Random::new(seed), lists: Lists::new(), times: Times::new(), pool: Vec::new() };
     for _ in 0..64 {
         let sheet = tests.sheet();
         tests.pool.push(sheet);

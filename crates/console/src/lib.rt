@@ -32,6 +32,7 @@ fn complain(s: Session, text: &[u8]) {
     let kind = program.kind;
     match kind {
         Kind::Holdings => io::write_all(STDERR_FILENO, b"holdings: "),
+        Kind::Months => io::write_all(STDERR_FILENO, b"months: "),
     }
     ;
     io::write_all(STDERR_FILENO, text);

@@ -8,15 +8,19 @@ ghost use Rattle.sessions.specs.Programs.{machineOf, In, Runs, isOver, S
 use desk;
 use desk::Desk;
 use machine::Line;
+use year;
+use year::Year;
 
 pub enum Kind {
     Holdings,
+    Months,
 }
 
 // Where a program stands. An enum cannot hold a sheet, so the states stand beside the kind, and those of other kinds stay as they began.
 pub struct Program {
     pub kind: Kind,
     pub desk: Desk,
+    pub year: Year,
 }
 
 // Where a line leads, and how much was written.
@@ -31,7 +35,8 @@ impl Program {
         ensures { λ r. ⌜ In kind r (machineOf kind .start) ⌝ }
     {
         let desk = Desk::new();
-        Program { kind, desk }
+        let year = Year::new();
+        Program { kind, desk, year }
     }
 
     // Nothing more will be printed.
@@ -40,8 +45,10 @@ impl Program {
     {
         let kind = self.kind;
         let desk = self.desk;
+        let year = self.year;
         match kind {
             Kind::Holdings => desk.is_over(),
+            Kind::Months => year.is_over(),
         }
     }
 
@@ -54,11 +61,29 @@ impl Program {
     {
         let kind = self.kind;
         let desk = self.desk;
+        let year = self.year;
         match kind {
             Kind::Holdings => {
                 let t = desk::step(desk, line, out);
                 let after = t.desk;
-                let program = Program { kind, desk: after };
+                let program = Program {
+                    kind,
+                    desk: after,
+                    year,
+                };
+                Stepped {
+                    program,
+                    wrote: t.wrote,
+                }
+            }
+            Kind::Months => {
+                let t = year::step(year, line, out);
+                let after = t.year;
+                let program = Program {
+                    kind,
+                    desk,
+                    year: after,
+                };
                 Stepped {
                     program,
                     wrote: t.wrote,
@@ -75,8 +100,10 @@ impl Program {
     {
         let kind = self.kind;
         let desk = self.desk;
+        let year = self.year;
         match kind {
             Kind::Holdings => desk::stop(desk, out, at),
+            Kind::Months => year::stop(year, out, at),
         }
     }
 }
