@@ -11,9 +11,8 @@ use Rattle.sheet.specs.Record.{opened}
 use Rattle.histories.specs.Histories.{Good}
 use Rattle.machine.specs.Rows.{Row}
 use Rattle.machine.specs.Machine.{refusal, spoken}
-use Rattle.machine.specs.Pieces.{Position, stateIn, Takes}
 use Rattle.machine.specs.Answers.{OneAnswer, SomeAnswer}
-use Rattle.machine.proofs.Outputs.{can-takes, one-output}
+use Rattle.machine.proofs.Outputs.{can-step, one-output}
 use Rattle.lines.specs.declared.Order.the-variants.{Make, End, Unreadable}
 use Rattle.lines.specs.declared.First.{First}
 use Rattle.lines.specs.declared.First.the-variants.{Marks, NotMarks}
@@ -160,9 +159,9 @@ stop-some (over h) w = ([], Stop.silent)
 some-answer : SomeAnswer months
 some-answer = record { Can = Sensible; start = good-start 0; step = step-some; stop = stop-some }
 
-pub sensible-takes : {p q : Position months} {a said : List ℕ} → Takes months p a q said → Sensible (stateIn p) → Sensible (stateIn q)
+pub sensible-step : {k : ℕ} {s t : State} {row : Row} {now : List ℕ} → Step k s row t now → Sensible s → Sensible t
 unfolding some-answer
-sensible-takes t g = can-takes one-answer some-answer t g
+sensible-step e g = can-step one-answer some-answer e g
 
 pub exactly-one : (input : List ℕ) → (output : List ℕ) × Prints input output × ((other : List ℕ) → Prints input other → other ≡ output)
 exactly-one input = one-output one-answer some-answer input

@@ -5,7 +5,7 @@ use Rattle.sessions.proofs.program.Program.new.Statement.{statement}
 use Rattle.sessions.proofs.program.Program.new.Tie as tie
 
 returns : tie.Need-returns
-returns c = new-program _ (c .new .ensures)
+returns c = new-program _ (c .before .new .ensures) (c .new2 .ensures)
 
 pub new-spec : {M : Type 1} → statement M
-new-spec = tie.close (tie.spec (λ c κs. search needs) returns)
+new-spec = tie.close (tie.spec (λ c κs. search needs) (λ c κs. search needs) returns)

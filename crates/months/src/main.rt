@@ -1,0 +1,6 @@
+// The year program.
+use sessions::Kind;
+
+fn main() {
+    console::run(Kind::Months);
+}
