@@ -1,19 +1,20 @@
--- What the calls of a program's own crate tell is told of the machine of its kind: a law for each call of each program.
+-- What the calls of a program's own crate tell of a state is told of the program that holds it.
 use Prim.Native.Nat.{ℕ}
-use mathlib.Core.Path.{_≡_, refl, sym, ap, ap₂, _∙_, subst}
+use mathlib.Core.Path.{_≡_, refl, sym, ap, _∙_, subst}
 use mathlib.Core.List.{List}
 use Rattle.machine.specs.Rows.{Row}
+use Rattle.machine.specs.Machine.{Machine}
 use Rattle.machine.specs.Answers.{OneAnswer}
 use Rattle.machine.specs.Steps.{SteppedBy, StoppedBy}
 use Rattle.desk.specs.Prints.{State, first, holdings}
 use Rattle.desk.specs.States as desk
 use Rattle.desk.specs.declared.stages.Desk.{Desk}
-use Rattle.desk.specs.declared.stages.Stepped as stepped
 use Rattle.desk.proofs.Outputs.{one-answer, good-step}
 use Rattle.sessions.specs.Programs.{machineOf, Can, programOf, In, Runs, Steps, Stops}
 use Rattle.sessions.specs.declared.program.Kind.{Kind}
 use Rattle.sessions.specs.declared.program.Kind.the-variants.{Holdings}
 use Rattle.sessions.specs.declared.program.Program.{Program}
+use Rattle.sessions.specs.declared.program.Stepped.{Stepped}
 
 pub answers : (k : Kind) → OneAnswer (machineOf k)
 answers Holdings = one-answer
@@ -32,35 +33,35 @@ only Holdings = refl
 kind-of : (k : Kind) (s : machineOf k .State) → programOf k s .kind ≡ k
 kind-of Holdings s = refl
 
--- what holds of the states of a program's kind holds of the one that it stands in
-of-kind : {p : Program} (j : Kind) (P : (k : Kind) → machineOf k .State → Type 0) → p .kind ≡ j → ((s : machineOf j .State) → In j p s → P j s)
-    → (k : Kind) (s : machineOf k .State) → In k p s → P k s
-of-kind {p} j P q f k s i =
-    subst (λ (x : Kind). (s : machineOf x .State) → In x p s → P x s) (sym q ∙ ap (λ (x : Program). x .kind) (i .is) ∙ kind-of k s) f s i
+-- what is told of the states of a program's kind is told of the one that it stands in
+module _ {p : Program} (j : Kind) (q : p .kind ≡ j) where
+  of-kind : (P : (k : Kind) → machineOf k .State → Type 0) → ((s : machineOf j .State) → In j p s → P j s) → (k : Kind) (s : machineOf k .State) → In k p s → P k s
+  of-kind P f k s i =
+      subst (λ (x : Kind). (s : machineOf x .State) → In x p s → P x s) (sym q ∙ ap (λ (x : Program). x .kind) (i .is) ∙ kind-of k s) f s i
+
+  pub runs-of : Runs p → (s : machineOf j .State) × In j p s
+  runs-of r = of-kind (λ (k : Kind) (s : machineOf k .State). (s : machineOf j .State) × In j p s) (λ s i. (s, i)) (r .0) (r .1) (r .2)
+
+  pub steps-of : {n : ℕ} {row : Row} {out later : List ℕ} {t : Stepped}
+      → ((s : machineOf j .State) → In j p s → SteppedBy (machineOf j) (programOf j) n s row out (t .program) (t .wrote) later) → Steps p n row out t later
+  steps-of {n} {row} {out} {later} {t} f =
+      of-kind (λ (k : Kind) (s : machineOf k .State). SteppedBy (machineOf k) (programOf k) n s row out (t .program) (t .wrote) later) f
+
+  pub stops-of : {out later : List ℕ} {at w : ℕ} → ((s : machineOf j .State) → In j p s → StoppedBy (machineOf j) s out at w later) → Stops p out at w later
+  stops-of {out} {later} {at} {w} f = of-kind (λ (k : Kind) (s : machineOf k .State). StoppedBy (machineOf k) s out at w later) f
+
+-- the same step, told of what holds the state
+held-in : {M : Machine} {S T : Type 0} {held : M .State → S} {n w : ℕ} {s : M .State} {row : Row} {out later : List ℕ} {c : S} (within : M .State → T) (d : T)
+    (e : SteppedBy M held n s row out c w later) → d ≡ within (e .state) → SteppedBy M within n s row out d w later
+held-in within d e q = record { state = e .state; said = e .said; step = e .step; is = q; laid = e .laid; short = e .short }
 
 -- holdings
 
-module _ {p : Program} where
-  desk-in : (s : State) → In Holdings p s → desk.In (p .desk) s
-  desk-in s i = record { is = ap (λ (x : Program). x .desk) (i .is); good = i .can }
+module _ {p : Program} {s : State} (i : In Holdings p s) where
+  pub desk-in : desk.In (p .desk) s
+  desk-in = record { is = ap (λ (x : Program). x .desk) (i .is); good = i .can }
 
-  module _ (q : p .kind ≡ Holdings) where
-    pub runs-desk : Runs p → (s : State) × desk.In (p .desk) s
-    runs-desk r = of-kind Holdings (λ (k : Kind) (s : machineOf k .State). (s : State) × desk.In (p .desk) s) q (λ s i. (s, desk-in s i)) (r .0) (r .1) (r .2)
-
-    pub step-desk : {n : ℕ} {row : Row} {out later : List ℕ} {t : stepped.Stepped} → ((s : State) → desk.In (p .desk) s → desk.SteppedTo n s row out t later)
-        → Steps p n row out (record { program = record { kind = p .kind; desk = t .desk }; wrote = t .wrote }) later
-    step-desk {n} {row} {out} {later} {t} f =
-        of-kind Holdings (λ (k : Kind) (s : machineOf k .State). SteppedBy (machineOf k) (programOf k) n s row out (record { kind = p .kind; desk = t .desk }) (t .wrote) later) q (λ s i.
-        let w = f s (desk-in s i) in
-        record {
-          state = w .state;
-          said = w .said;
-          step = w .step;
-          is = ap₂ (λ (x : Kind) (d : Desk). record { kind = x; desk = d }) q (w .is);
-          laid = w .laid;
-          short = w .short;
-        })
-
-    pub stop-desk : {out later : List ℕ} {at w : ℕ} → ((s : State) → desk.In (p .desk) s → StoppedBy holdings s out at w later) → Stops p out at w later
-    stop-desk {out} {later} {at} {w} f = of-kind Holdings (λ (k : Kind) (s : machineOf k .State). StoppedBy (machineOf k) s out at w later) q (λ s i. f s (desk-in s i))
+  pub desk-stepped : {n w : ℕ} {row : Row} {out later : List ℕ} {d : Desk} → SteppedBy holdings desk.deskOf n s row out d w later
+      → SteppedBy holdings (programOf Holdings) n s row out (record { kind = p .kind; desk = d }) w later
+  desk-stepped {d = d} e =
+      held-in (programOf Holdings) (record { kind = p .kind; desk = d }) e (λ j. record { kind = i .is j .kind; desk = e .is j })
