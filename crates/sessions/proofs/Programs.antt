@@ -1,14 +1,14 @@
--- What the calls of a program's own crate tell is told of the machine of its kind: a law for each call of each program.
+-- What the calls of a program's own crate tell of a state is told of the program that holds it.
 use Prim.Native.Nat.{ℕ}
-use mathlib.Core.Path.{_≡_, refl, sym, ap, ap₂, _∙_, subst}
+use mathlib.Core.Path.{_≡_, refl, sym, ap, _∙_, subst}
 use mathlib.Core.List.{List}
 use Rattle.machine.specs.Rows.{Row}
+use Rattle.machine.specs.Machine.{Machine}
 use Rattle.machine.specs.Answers.{OneAnswer}
 use Rattle.machine.specs.Steps.{SteppedBy, StoppedBy}
 use Rattle.desk.specs.Prints.{holdings}
 use Rattle.desk.specs.States as desk
 use Rattle.desk.specs.declared.stages.Desk.{Desk}
-use Rattle.desk.specs.declared.stages.Stepped as of-desk
 use Rattle.desk.proofs.Outputs.{one-answer, good-step}
 use Rattle.year.specs.Prints.{months}
 use Rattle.year.specs.States as year
@@ -19,6 +19,7 @@ use Rattle.sessions.specs.Programs.{machineOf, Can, programOf, In, Runs,
 use Rattle.sessions.specs.declared.program.Kind.{Kind}
 use Rattle.sessions.specs.declared.program.Kind.the-variants.{Holdings, Months}
 use Rattle.sessions.specs.declared.program.Program.{Program}
+use Rattle.sessions.specs.declared.program.Stepped.{Stepped}
 
 pub answers : (k : Kind) → OneAnswer (machineOf k)
 answers Holdings = one-answer
@@ -39,71 +40,35 @@ kind-of : (k : Kind) (s : machineOf k .State) → programOf k s .kind ≡ k
 kind-of Holdings s = refl
 kind-of Months s = refl
 
--- what holds of the states of a program's kind holds of the one that it stands in
-of-kind : {p : Program} (j : Kind) (P : (k : Kind) → machineOf k .State → Type 0) → p .kind ≡ j → ((s : machineOf j .State) → In j p s → P j s)
-    → (k : Kind) (s : machineOf k .State) → In k p s → P k s
-of-kind {p} j P q f k s i =
-    subst (λ (x : Kind). (s : machineOf x .State) → In x p s → P x s) (sym q ∙ ap (λ (x : Program). x .kind) (i .is) ∙ kind-of k s) f s i
+-- what is told of the states of a program's kind is told of the one that it stands in
+module _ {p : Program} (j : Kind) (q : p .kind ≡ j) where
+  of-kind : (P : (k : Kind) → machineOf k .State → Type 0) → ((s : machineOf j .State) → In j p s → P j s) → (k : Kind) (s : machineOf k .State) → In k p s → P k s
+  of-kind P f k s i =
+      subst (λ (x : Kind). (s : machineOf x .State) → In x p s → P x s) (sym q ∙ ap (λ (x : Program). x .kind) (i .is) ∙ kind-of k s) f s i
 
-module _ {p : Program} where
-  -- holdings
+  pub runs-of : Runs p → (s : machineOf j .State) × In j p s
+  runs-of r = of-kind (λ (k : Kind) (s : machineOf k .State). (s : machineOf j .State) × In j p s) (λ s i. (s, i)) (r .0) (r .1) (r .2)
 
-  desk-in : (s : holdings .State) → In Holdings p s → desk.In (p .desk) s
-  desk-in s i = record { is = ap (λ (x : Program). x .desk) (i .is); good = i .can }
+  pub steps-of : {n : ℕ} {row : Row} {out later : List ℕ} {t : Stepped}
+      → ((s : machineOf j .State) → In j p s → SteppedBy (machineOf j) (programOf j) n s row out (t .program) (t .wrote) later) → Steps p n row out t later
+  steps-of {n} {row} {out} {later} {t} f =
+      of-kind (λ (k : Kind) (s : machineOf k .State). SteppedBy (machineOf k) (programOf k) n s row out (t .program) (t .wrote) later) f
 
-  module _ (q : p .kind ≡ Holdings) where
-    pub runs-desk : Runs p → (s : holdings .State) × desk.In (p .desk) s
-    runs-desk r =
-        of-kind Holdings (λ (k : Kind) (s : machineOf k .State). (s : holdings .State) × desk.In (p .desk) s) q (λ s i. (s, desk-in s i)) (r .0) (r .1) (r .2)
+  pub stops-of : {out later : List ℕ} {at w : ℕ} → ((s : machineOf j .State) → In j p s → StoppedBy (machineOf j) s out at w later) → Stops p out at w later
+  stops-of {out} {later} {at} {w} f = of-kind (λ (k : Kind) (s : machineOf k .State). StoppedBy (machineOf k) s out at w later) f
 
-    pub step-desk : {n : ℕ} {row : Row} {out later : List ℕ} {t : of-desk.Stepped}
-        → ((s : holdings .State) → desk.In (p .desk) s → SteppedBy holdings desk.deskOf n s row out (t .desk) (t .wrote) later)
-        → Steps p n row out (record { program = record { kind = p .kind; desk = t .desk; year = p .year }; wrote = t .wrote }) later
-    step-desk {n} {row} {out} {later} {t} f =
-        of-kind Holdings
-        (λ (k : Kind) (s : machineOf k .State). SteppedBy (machineOf k) (programOf k) n s row out (record { kind = p .kind; desk = t .desk; year = p .year }) (t .wrote) later)
-        q (λ s i.
-        let w = f s (desk-in s i) in
-        let other : p .year ≡ year.yearOf (months .start) = ap (λ (x : Program). x .year) (i .is) in
-        record {
-          state = w .state;
-          said = w .said;
-          step = w .step;
-          is = λ j. record { kind = q j; desk = w .is j; year = other j };
-          laid = w .laid;
-          short = w .short;
-        })
+-- the same step, told of what holds the state
+held-in : {M : Machine} {S T : Type 0} {held : M .State → S} {n w : ℕ} {s : M .State} {row : Row} {out later : List ℕ} {c : S} (within : M .State → T) (d : T)
+    (e : SteppedBy M held n s row out c w later) → d ≡ within (e .state) → SteppedBy M within n s row out d w later
+held-in within d e q = record { state = e .state; said = e .said; step = e .step; is = q; laid = e .laid; short = e .short }
 
-    pub stop-desk : {out later : List ℕ} {at w : ℕ} → ((s : holdings .State) → desk.In (p .desk) s → StoppedBy holdings s out at w later) → Stops p out at w later
-    stop-desk {out} {later} {at} {w} f = of-kind Holdings (λ (k : Kind) (s : machineOf k .State). StoppedBy (machineOf k) s out at w later) q (λ s i. f s (desk-in s i))
+-- holdings
 
-  -- months
+module _ {p : Program} {s : State} (i : In Holdings p s) where
+  pub desk-in : desk.In (p .desk) s
+  desk-in = record { is = ap (λ (x : Program). x .desk) (i .is); good = i .can }
 
-  year-in : (s : months .State) → In Months p s → year.In (p .year) s
-  year-in s i = record { is = ap (λ (x : Program). x .year) (i .is); can = i .can }
-
-  module _ (q : p .kind ≡ Months) where
-    pub runs-year : Runs p → (s : months .State) × year.In (p .year) s
-    runs-year r =
-        of-kind Months (λ (k : Kind) (s : machineOf k .State). (s : months .State) × year.In (p .year) s) q (λ s i. (s, year-in s i)) (r .0) (r .1) (r .2)
-
-    pub step-year : {n : ℕ} {row : Row} {out later : List ℕ} {t : of-year.Stepped}
-        → ((s : months .State) → year.In (p .year) s → SteppedBy months year.yearOf n s row out (t .year) (t .wrote) later)
-        → Steps p n row out (record { program = record { kind = p .kind; desk = p .desk; year = t .year }; wrote = t .wrote }) later
-    step-year {n} {row} {out} {later} {t} f =
-        of-kind Months
-        (λ (k : Kind) (s : machineOf k .State). SteppedBy (machineOf k) (programOf k) n s row out (record { kind = p .kind; desk = p .desk; year = t .year }) (t .wrote) later)
-        q (λ s i.
-        let w = f s (year-in s i) in
-        let other : p .desk ≡ desk.deskOf (holdings .start) = ap (λ (x : Program). x .desk) (i .is) in
-        record {
-          state = w .state;
-          said = w .said;
-          step = w .step;
-          is = λ j. record { kind = q j; desk = other j; year = w .is j };
-          laid = w .laid;
-          short = w .short;
-        })
-
-    pub stop-year : {out later : List ℕ} {at w : ℕ} → ((s : months .State) → year.In (p .year) s → StoppedBy months s out at w later) → Stops p out at w later
-    stop-year {out} {later} {at} {w} f = of-kind Months (λ (k : Kind) (s : machineOf k .State). StoppedBy (machineOf k) s out at w later) q (λ s i. f s (year-in s i))
+  pub desk-stepped : {n w : ℕ} {row : Row} {out later : List ℕ} {d : Desk} → SteppedBy holdings desk.deskOf n s row out d w later
+      → SteppedBy holdings (programOf Holdings) n s row out (record { kind = p .kind; desk = d }) w later
+  desk-stepped {d = d} e =
+      held-in (programOf Holdings) (record { kind = p .kind; desk = d }) e (λ j. record { kind = i .is j .kind; desk = e .is j })
