@@ -6,15 +6,14 @@ use Rattle.machine.specs.Rows.{Row}
 use Rattle.machine.specs.Machine.{Machine}
 use Rattle.machine.specs.Answers.{OneAnswer}
 use Rattle.machine.specs.Steps.{SteppedBy, StoppedBy}
-use Rattle.desk.specs.Prints.{holdings}
+use Rattle.desk.specs.Prints.{State, first, holdings}
 use Rattle.desk.specs.States as desk
 use Rattle.desk.specs.declared.stages.Desk.{Desk}
 use Rattle.desk.proofs.Outputs.{one-answer, good-step}
-use Rattle.year.specs.Prints.{months}
+use Rattle.year.specs.Prints as prints
 use Rattle.year.specs.States as year
 use Rattle.year.specs.declared.stages.Year.{Year}
-use Rattle.year.specs.declared.stages.Stepped as of-year
-use Rattle.year.proofs.Outputs.{one-answer as one-year, sensible-step}
+use Rattle.year.proofs.Outputs as months-answers
 use Rattle.sessions.specs.Programs.{machineOf, Can, programOf, In, Runs, Steps, Stops}
 use Rattle.sessions.specs.declared.program.Kind.{Kind}
 use Rattle.sessions.specs.declared.program.Kind.the-variants.{Holdings, Months}
@@ -23,18 +22,17 @@ use Rattle.sessions.specs.declared.program.Stepped.{Stepped}
 
 pub answers : (k : Kind) → OneAnswer (machineOf k)
 answers Holdings = one-answer
-answers Months = one-year
+answers Months = months-answers.one-answer
 
 -- a line leads to a state that the program can be in
 pub can-step : (k : Kind) (n : ℕ) (s t : machineOf k .State) (row : Row) (now : List ℕ) → machineOf k .step n s row t now → Can k s → Can k t
 can-step Holdings n s t row now e c = good-step e c
-can-step Months n s t row now e c = sensible-step e c
+can-step Months n s t row now e c = months-answers.sensible-step e c
 
 -- in front of line 1
-pub new-program : (k : Kind) {d : Desk} {y : Year} → desk.In d (holdings .start) → year.In y (months .start)
-    → In k (record { kind = k; desk = d; year = y }) (machineOf k .start)
-new-program Holdings i j = record { is = ap₂ (λ (d : Desk) (y : Year). record { kind = Holdings; desk = d; year = y }) (i .is) (j .is); can = i .good }
-new-program Months i j = record { is = ap₂ (λ (d : Desk) (y : Year). record { kind = Months; desk = d; year = y }) (i .is) (j .is); can = j .can }
+pub new-program : (k : Kind) {d : Desk} {y : Year} → desk.In d first → year.In y prints.first → In k (record { kind = k; desk = d; year = y }) (machineOf k .start)
+new-program Holdings i j = record { is = λ t. record { kind = Holdings; desk = i .is t; year = j .is t }; can = i .good }
+new-program Months i j = record { is = λ t. record { kind = Months; desk = i .is t; year = j .is t }; can = j .can }
 
 kind-of : (k : Kind) (s : machineOf k .State) → programOf k s .kind ≡ k
 kind-of Holdings s = refl
@@ -69,6 +67,17 @@ module _ {p : Program} {s : State} (i : In Holdings p s) where
   desk-in = record { is = ap (λ (x : Program). x .desk) (i .is); good = i .can }
 
   pub desk-stepped : {n w : ℕ} {row : Row} {out later : List ℕ} {d : Desk} → SteppedBy holdings desk.deskOf n s row out d w later
-      → SteppedBy holdings (programOf Holdings) n s row out (record { kind = p .kind; desk = d }) w later
+      → SteppedBy holdings (programOf Holdings) n s row out (record { kind = p .kind; desk = d; year = p .year }) w later
   desk-stepped {d = d} e =
-      held-in (programOf Holdings) (record { kind = p .kind; desk = d }) e (λ j. record { kind = i .is j .kind; desk = e .is j })
+      held-in (programOf Holdings) (record { kind = p .kind; desk = d; year = p .year }) e (λ j. record { kind = i .is j .kind; desk = e .is j; year = i .is j .year })
+
+-- months
+
+module _ {p : Program} {s : prints.State} (i : In Months p s) where
+  pub year-in : year.In (p .year) s
+  year-in = record { is = ap (λ (x : Program). x .year) (i .is); can = i .can }
+
+  pub year-stepped : {n w : ℕ} {row : Row} {out later : List ℕ} {y : Year} → SteppedBy prints.months year.yearOf n s row out y w later
+      → SteppedBy prints.months (programOf Months) n s row out (record { kind = p .kind; desk = p .desk; year = y }) w later
+  year-stepped {y = y} e =
+      held-in (programOf Months) (record { kind = p .kind; desk = p .desk; year = y }) e (λ j. record { kind = i .is j .kind; desk = i .is j .desk; year = e .is j })
