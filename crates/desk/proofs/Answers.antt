@@ -2,8 +2,8 @@
 -- characters is always a combination, so 2 does not come.
 use Prim.Native.Nat.{ℕ, _+_, _^_}
 use mathlib.Core.Path.{_≡_, refl}
-use mathlib.Core.Bool.{Bool, true, _||_}
-use mathlib.Core.List.{List, []}
+use mathlib.Core.Bool.{true, _||_}
+use mathlib.Core.List.{List}
 use lib.Dec.{eqb, leb}
 use borrow.Author.Tests.{lt-leb}
 use Rattle.boxes.specs.Sums.{sum}
@@ -13,15 +13,17 @@ use Rattle.sheet.specs.Record.{Record}
 use Rattle.sheet.specs.declared.Call.{Call}
 use Rattle.histories.specs.Histories.{numberOf}
 use Rattle.machine.specs.Rows.{Row}
-use Rattle.machine.specs.Machine.{spoken}
+use Rattle.machine.specs.Heard.{Hears, nothing, page, refused}
+use Rattle.machine.proofs.Heard.{spoken-heard}
 use Rattle.lines.specs.declared.Order.the-variants.{Make}
 use Rattle.lines.specs.declared.First.{First}
 use Rattle.lines.specs.declared.First.the-variants.{Marks, NotMarks}
 use Rattle.lines.specs.Words.{Says, enters, leaves, receives, withdraws, said, RowAsks}
-use Rattle.desk.specs.Heard.{Hears, nothing, result, refused, inLine1, inLaterLine}
+use Rattle.desk.specs.Heard.{IsResult, inLine1, inLaterLine}
 use Rattle.desk.specs.Prints.{firstNumber, State, first, going, Step, opens, shut, made, unread, ended}
 
-call-seen : (r : Record) {line : List ℕ} {c : Call} → Says (r .marks) line (Make c) → (eqb (numberOf r c) 0 || inLaterLine (numberOf r c)) ≡ true
+-- the number of a call that a line says
+pub call-seen : (r : Record) {line : List ℕ} {c : Call} → Says (r .marks) line (Make c) → (eqb (numberOf r c) 0 || inLaterLine (numberOf r c)) ≡ true
 call-seen r (enters {c} n) = rw (lt-leb (2 ^ r .marks) c (n .small)) (if (r .class c) (λ e. rw e) (λ e. rw e))
 call-seen r (leaves {c} n) = rw (lt-leb (2 ^ r .marks) c (n .small)) (if (r .class c) (λ e. rw e) (λ e. rw e))
 call-seen r (receives {c} {d} n) =
@@ -33,18 +35,16 @@ call-seen r (withdraws {c} {d} n) =
     rw (lt-leb (2 ^ r .marks) c (n .small))
     (if (amountOk d) (λ e. if (leb d (r .times c)) (λ f. rw (e, f)) (λ f. rw (e, f))) (λ e. rw e))
 
-spoken-heard : (k a : ℕ) (numbers : ℕ → Bool) → (eqb a 0 || numbers a) ≡ true → Hears k numbers (spoken k a)
-spoken-heard k a numbers h = if (eqb a 0) (λ e. rw e nothing) (λ e. rw e (refused a (rw e at h)))
-
-pub line-seen : {k : ℕ} {r : Record} {row : Row} {t : State} {text : List ℕ} → Step k (going r) row t text → Hears k inLaterLine text
+pub line-seen : {k : ℕ} {r : Record} {row : Row} {t : State} {text : List ℕ} → Step k (going r) row t text → Hears IsResult k inLaterLine text
 line-seen {k} {r} (made {c = c} (RowAsks.read (said s))) = spoken-heard k (numberOf r c) inLaterLine (call-seen r s)
 line-seen (unread w) = refused 10 refl
-line-seen (ended w t) = result t
+line-seen (ended {r = r} w t) = page (r, t)
 
-pub first-seen : {k : ℕ} {row : Row} {t : State} {text : List ℕ} → Step k first row t text → Hears k inLine1 text
+-- the number of a refused `marks`
+pub shut-seen : (f : First) → (firstNumber f ≡ 0 → ⊥) → inLine1 (firstNumber f) ≡ true
+shut-seen (Marks m) n = if (marksOk mostMarks m) (λ e. absurd (n (rw e))) (λ e. rw e)
+shut-seen NotMarks n = refl
+
+pub first-seen : {k : ℕ} {row : Row} {t : State} {text : List ℕ} → Step k first row t text → Hears IsResult k inLine1 text
 first-seen (opens w e) = nothing
-first-seen (shut {f = f} w n) = refused (firstNumber f) (go f n)
-  where
-    go : (f : First) → (firstNumber f ≡ 0 → ⊥) → inLine1 (firstNumber f) ≡ true
-    go (Marks m) n = if (marksOk mostMarks m) (λ e. absurd (n (rw e))) (λ e. rw e)
-    go NotMarks n = refl
+first-seen (shut {f = f} w n) = refused (firstNumber f) (shut-seen f n)

@@ -4,3 +4,4 @@ pub mod Answers
 pub mod Pieces
 pub mod Steps
 pub mod AtHand
+pub mod Heard

@@ -1,0 +1,55 @@
+-- THE ANSWERS THAT A YEAR CAN SEE: a line prints nothing, or the rows, or a refusal by 3, 4, 8, 9, 10 or 11; line 1 by 10, and line 2 by 1 or 10.
+use Prim.Native.Nat.{ℕ}
+use mathlib.Core.Path.{_≡_, refl, sym, subst}
+use mathlib.Core.Bool.{Bool, true, false, _||_}
+use mathlib.Core.List.{List}
+use lib.Dec.{eqb}
+use Rattle.ground.proofs.Cases.{if, clash}
+use Rattle.dates.specs.declared.date.Date.{Date}
+use Rattle.sheet.specs.Record.{opened}
+use Rattle.sheet.specs.declared.Call.{Call}
+use Rattle.histories.specs.Histories.{numberOf}
+use Rattle.machine.specs.Rows.{Row}
+use Rattle.machine.specs.Heard.{Hears, nothing, page, refused}
+use Rattle.machine.proofs.Heard.{spoken-heard}
+use Rattle.lines.specs.declared.Order.the-variants.{Make}
+use Rattle.lines.specs.Words.{Says, said}
+use Rattle.desk.specs.Heard as desk
+use Rattle.desk.specs.Prints.{firstNumber}
+use Rattle.desk.proofs.Answers.{call-seen, shut-seen}
+use Rattle.year_lines.specs.Slips.{RowAsks, plain, dated as on-day}
+use Rattle.bookings.specs.Bookings.{undated, on, History, calls, any, recordNow, lastDate, dateOk, bookingNumber}
+use Rattle.bookings.proofs.Sequences.{marks-after}
+use Rattle.year.specs.Heard.{IsPage, inLine1, inLaterLine}
+use Rattle.year.specs.Prints.{State, first, named, going, Step, names, nameless, opens, shut, stock, late, dated, unread, ended}
+
+or-more : (a b c : Bool) → (a || b) ≡ true → (a || (b || c)) ≡ true
+or-more true b c e = refl
+or-more false true c e = refl
+or-more false false c e = clash e refl
+
+call-heard : (h : History) {line : List ℕ} {c : Call} → Says (h .marks) line (Make c)
+    → (eqb (numberOf (recordNow h) c) 0 || inLaterLine (numberOf (recordNow h) c)) ≡ true
+call-heard h {line} {c} s =
+    let n = numberOf (recordNow h) c in
+    or-more (eqb n 0) (desk.inLaterLine n) (eqb n 11)
+    (call-seen (recordNow h) (subst (λ (m : ℕ). Says m line (Make c)) (sym (marks-after (opened (h .marks)) (calls any (h .bookings)))) s))
+
+date-heard : (h : History) {line : List ℕ} (d : Date) {c : Call} → Says (h .marks) line (Make c)
+    → (eqb (bookingNumber h (on d c)) 0 || inLaterLine (bookingNumber h (on d c))) ≡ true
+date-heard h d s = if (dateOk (h .year) (lastDate h) d) (λ e. rw e (call-heard h s)) (λ e. rw e refl)
+
+pub line-seen : {k : ℕ} {b : Bool} {h : History} {row : Row} {t : State} {text : List ℕ} → Step k (going b h) row t text → Hears IsPage k inLaterLine text
+line-seen {k} {h = h} (stock {c = c} (RowAsks.read (plain n (said s)))) = spoken-heard k (bookingNumber h (undated c)) inLaterLine (call-heard h s)
+line-seen (late w) = refused 10 refl
+line-seen {k} {h = h} (dated {d = d} {c = c} (RowAsks.read (on-day s))) = spoken-heard k (bookingNumber h (on d c)) inLaterLine (date-heard h d (s .call))
+line-seen (unread w) = refused 10 refl
+line-seen (ended {h = h} w) = page (h, refl)
+
+pub marks-seen : {k y : ℕ} {row : Row} {t : State} {text : List ℕ} → Step k (named y) row t text → Hears IsPage k desk.inLine1 text
+marks-seen (opens w e) = nothing
+marks-seen (shut {f = f} w n) = refused (firstNumber f) (shut-seen f n)
+
+pub year-seen : {k : ℕ} {row : Row} {t : State} {text : List ℕ} → Step k first row t text → Hears IsPage k inLine1 text
+year-seen (names w) = nothing
+year-seen (nameless w) = refused 10 refl
