@@ -1,8 +1,9 @@
 -- THE ANSWERS THAT A YEAR CAN SEE: a line prints nothing, or the rows, or a refusal by 3, 4, 8, 9, 10 or 11; line 1 by 10, and line 2 by 1 or 10.
-use Prim.Native.Nat.{ℕ}
-use mathlib.Core.Path.{_≡_, refl, sym, subst}
+use Prim.Native.Nat.{ℕ, _+_, _≤_}
+use mathlib.Core.Path.{_≡_, refl, sym, ap, _∙_, subst}
 use mathlib.Core.Bool.{Bool, true, false, _||_}
-use mathlib.Core.List.{List}
+use mathlib.Core.List.{List, [], _++_, append-nil}
+use native.Mathlib.Omega.{arith}
 use lib.Dec.{eqb}
 use Rattle.ground.proofs.Cases.{if, clash}
 use Rattle.dates.specs.declared.date.Date.{Date}
@@ -10,6 +11,7 @@ use Rattle.sheet.specs.Record.{opened}
 use Rattle.sheet.specs.declared.Call.{Call}
 use Rattle.histories.specs.Histories.{numberOf}
 use Rattle.machine.specs.Rows.{Row}
+use Rattle.machine.specs.Machine.{Onward, spoken}
 use Rattle.machine.specs.Heard.{Hears, nothing, page, refused}
 use Rattle.machine.proofs.Heard.{spoken-heard}
 use Rattle.lines.specs.declared.Order.the-variants.{Make}
@@ -20,8 +22,8 @@ use Rattle.desk.proofs.Answers.{call-seen, shut-seen}
 use Rattle.year_lines.specs.Slips.{RowAsks, plain, dated as on-day}
 use Rattle.bookings.specs.Bookings.{undated, on, History, calls, any, recordNow, lastDate, dateOk, bookingNumber}
 use Rattle.bookings.proofs.Sequences.{marks-after}
-use Rattle.year.specs.Heard.{IsPage, inLine1, inLaterLine}
-use Rattle.year.specs.Prints.{State, first, named, going, Step, names, nameless, opens, shut, stock, late, dated, unread, ended}
+use Rattle.year.specs.Heard.{IsPage, inLine1, inLaterLine, RowsLast}
+use Rattle.year.specs.Prints.{page as printed, State, first, named, going, over, Step, names, nameless, opens, shut, stock, late, dated, unread, ended, Stop, months, Prints}
 
 or-more : (a b c : Bool) → (a || b) ≡ true → (a || (b || c)) ≡ true
 or-more true b c e = refl
@@ -53,3 +55,37 @@ marks-seen (shut {f = f} w n) = refused (firstNumber f) (shut-seen f n)
 pub year-seen : {k : ℕ} {row : Row} {t : State} {text : List ℕ} → Step k first row t text → Hears IsPage k inLine1 text
 year-seen (names w) = nothing
 year-seen (nameless w) = refused 10 refl
+
+-- THE ROWS COME LAST, behind all refusals
+
+later : {j k : ℕ} {text : List ℕ} → RowsLast j text → k ≤ j → RowsLast k text
+later RowsLast.nothing l = RowsLast.nothing
+later (RowsLast.rows h) l = RowsLast.rows h
+later {k = k} (RowsLast.refused j n a q r) l = RowsLast.refused k n a (omega arith) r
+
+spoken-last : (k n : ℕ) {rest : List ℕ} → RowsLast (k + 1) rest → RowsLast k (spoken k n ++ rest)
+spoken-last k n r = if (eqb n 0) (λ e. rw e (later r (omega arith))) (λ e. rw e (RowsLast.refused k k n (omega arith) r))
+
+over-silent : {k : ℕ} {h : History} {rows : List Row} {text : List ℕ} → Onward months k (over h) rows text → text ≡ []
+over-silent (Onward.stopped Stop.silent) = refl
+over-silent (Onward.line Step.silent p) = over-silent p
+
+onward-last : {k : ℕ} {s : State} {rows : List Row} {text : List ℕ} → Onward months k s rows text → RowsLast k text
+onward-last (Onward.stopped Stop.empty) = RowsLast.nothing
+onward-last (Onward.stopped Stop.unopened) = RowsLast.nothing
+onward-last (Onward.stopped (Stop.rows {h = h})) = RowsLast.rows h
+onward-last (Onward.stopped Stop.silent) = RowsLast.nothing
+onward-last (Onward.line (names w) p) = later (onward-last p) (omega arith)
+onward-last {k} (Onward.line (nameless w) p) = RowsLast.refused k k 10 (omega arith) (onward-last p)
+onward-last (Onward.line (opens w e) p) = later (onward-last p) (omega arith)
+onward-last {k} (Onward.line (shut {f = f} w n) p) = RowsLast.refused k k (firstNumber f) (omega arith) (onward-last p)
+onward-last {k} (Onward.line (stock {h = h} {c = c} w) p) = spoken-last k (bookingNumber h (undated c)) (onward-last p)
+onward-last {k} (Onward.line (late w) p) = RowsLast.refused k k 10 (omega arith) (onward-last p)
+onward-last {k} (Onward.line (dated {h = h} {d = d} {c = c} w) p) = spoken-last k (bookingNumber h (on d c)) (onward-last p)
+onward-last {k} (Onward.line (unread w) p) = RowsLast.refused k k 10 (omega arith) (onward-last p)
+onward-last {k} (Onward.line (ended {h = h} w) p) =
+    subst (RowsLast k) (sym (ap (λ (l : List ℕ). printed h ++ l) (over-silent p) ∙ append-nil (printed h))) (RowsLast.rows h)
+onward-last (Onward.line Step.silent p) = later (onward-last p) (omega arith)
+
+pub rows-last : (input : List ℕ) {output : List ℕ} → Prints input output → RowsLast 1 output
+rows-last input p = onward-last p
