@@ -1,4 +1,4 @@
--- A month's total is fixed when a later month begins: what is booked then is after the month's last day (`month-kept`), and until then all that is
+-- A month's total is fixed when a later month begins: what is booked then is after the month's last day (`month-before`), and until then all that is
 -- booked is not after it (`month-now`).
 use Prim.Native.Nat.{ℕ, suc, _≤_, _<_}
 use mathlib.Core.Path.{_≡_, refl, sym, ap, _∙_, subst}

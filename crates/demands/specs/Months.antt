@@ -3,8 +3,9 @@
 use Prim.Native.Nat.{ℕ, _≤_}
 use mathlib.Core.Path.{_≡_}
 use mathlib.Core.Bool.{Bool, true, false}
-use mathlib.Core.List.{List, flatten}
+use mathlib.Core.List.{List, [], _++_, flatten}
 use lib.ListN.{length, replicate}
+use Rattle.ground.specs.Texts.{ascii}
 use Rattle.dates.specs.Gregorian.{lastDay}
 use Rattle.dates.specs.Known.{Known}
 use Rattle.dates.specs.declared.date.Date.{Date}
@@ -20,8 +21,8 @@ use Rattle.machine.specs.Pieces.{in-line, start, Takes, InPieces}
 use Rattle.machine.specs.Heard.{Hears}
 use Rattle.desk.specs.Heard as desk
 use Rattle.bookings.specs.Bookings.{Booking, on, History, calls, any, upTo, recordNow, monthTotal, lastDate, dateOk, bookingNumber, afterBooking}
-use Rattle.year.specs.Prints.{State, first, named, going, Step, months, Prints}
-use Rattle.year.specs.Heard.{IsPage, inLine1, inLaterLine, RowsLast}
+use Rattle.year.specs.Prints.{page, State, first, named, going, Step, months, Prints}
+use Rattle.year.specs.Heard.{IsPage, inLine1, inLaterLine, RowsLast, EndsWith}
 
 -- a session has taken these bytes and has this history then: the calls that it accepted, with their dates
 pub record HasBooked (input : List ℕ) (h : History) : Type 0 where
@@ -51,6 +52,10 @@ pub record Months : Type 0 where
   pub pieces : {cuts : List (List ℕ)} {output : List ℕ} → InPieces months (start months) cuts output → Prints (flatten cuts) output
   -- the rows come when the input stops, behind all refusals, and nothing comes behind them
   pub rows-last : (input : List ℕ) {output : List ℕ} → Prints input output → RowsLast 1 output
+  -- they are those of the history that the session has when the input stops, at its end or by `end`
+  pub at-stop : {input output : List ℕ} {h : History} → HasBooked input h → Prints input output → EndsWith (page h) output
+  pub at-end : {input output : List ℕ} {h : History} (rest : List ℕ) (b : HasBooked input h) → b .begun ≡ [] → Prints (input ++ (ascii "end\n" ++ rest)) output
+      → EndsWith (page h) output
   -- a row is the class total that demand 2 gives for the history up to the month's last day
   pub row : {input : List ℕ} {h : History} → HasBooked input h → (m : ℕ) → 1 ≤ m → MonthRow h m
   -- and December's is that of the whole history

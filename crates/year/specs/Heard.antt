@@ -23,3 +23,7 @@ pub data RowsLast : ℕ → List ℕ → Type 0 where
   nothing : {k : ℕ} → RowsLast k []
   rows : {k : ℕ} (h : History) → RowsLast k (page h)
   refused : (k n a : ℕ) {rest : List ℕ} → k ≤ n → RowsLast (n + 1) rest → RowsLast k (refusal n a ++ rest)
+
+-- a text that ends with another
+abbrev pub EndsWith : (last text : List ℕ) → Type 0
+EndsWith last text = (front : List ℕ) × (text ≡ front ++ last)

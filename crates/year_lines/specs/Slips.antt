@@ -1,4 +1,4 @@
--- What a line of a year says (Q-2 of the order). A line is told without its newline.
+-- What a line of a year says (02, Q-2). A line is told without its newline.
 use Prim.Native.Nat.{ℕ, _≤_}
 use mathlib.Core.Path.{_≡_}
 use mathlib.Core.List.{List, _++_}
