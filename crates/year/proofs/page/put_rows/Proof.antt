@@ -46,7 +46,7 @@ loop-again c =
     let f = monthIn (s .args .totals .now) in
     let z : l .month + 1 - 1 ≡ l .month = omega arith in
     let x = getD (s .args .totals .now) (l .month) 0 in
-    let w = c .before .before .put-row .ensures in
+    let w = wrote-text (refl {a = monthRow (l .month + 1) x}) (c .before .before .put-row .ensures) in
     let h = c .before .before .before .before .shared-slice-known2 .given (l .month) in
     let small = row-length (l .month + 1) x (omega (arith, h)) in (
       omega arith,
