@@ -16,7 +16,6 @@ use Rattle.machine.proofs.Outputs.{can-step, one-output}
 use Rattle.lines.specs.declared.Order.the-variants.{Make, End, Unreadable}
 use Rattle.lines.specs.declared.First.{First}
 use Rattle.lines.specs.declared.First.the-variants.{Marks, NotMarks}
-use Rattle.lines.specs.Words.{RowOpens}
 use Rattle.lines.proofs.Settled.{row-opens-settled}
 use Rattle.lines.proofs.Decided.{row-opens-decided}
 use Rattle.year_lines.specs.declared.Named.{Named}
@@ -28,7 +27,7 @@ use Rattle.year_lines.proofs.Settled.{row-names-settled, row-asks-settled}
 use Rattle.year_lines.proofs.Decided.{row-names-decided, row-asks-decided}
 use Rattle.desk.specs.Prints.{firstNumber, firstRecord}
 use Rattle.desk.proofs.Outputs.{good-one, good-first}
-use Rattle.bookings.specs.Bookings.{undated, on, History, begun, lastDate, bookingNumber, afterBooking}
+use Rattle.bookings.specs.Bookings.{undated, on, History, begun, bookingNumber, afterBooking}
 use Rattle.bookings.specs.Months.{Kept}
 use Rattle.bookings.proofs.Bookings.{kept-begun}
 use Rattle.bookings.proofs.After.{kept-after-undated, kept-after-on, last-after-undated}

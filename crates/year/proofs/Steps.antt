@@ -1,7 +1,7 @@
 -- A line in a session: what the calls of the code tell is a step from the session's state.
 use Prim.Native.Nat.{ℕ, _≤_}
 use mathlib.Core.Path.{_≡_, refl, sym, ap, _∙_, subst}
-use mathlib.Core.Bool.{Bool, true, false, cond, true≢false}
+use mathlib.Core.Bool.{Bool, true, false, cond}
 use mathlib.Core.List.{List, []}
 use native.Mathlib.Omega.{arith}
 use lib.ListN.{replicate}
@@ -10,7 +10,7 @@ use Rattle.ground.specs.Areas.{Wrote}
 use Rattle.ground.proofs.Areas.{wrote-text, wrote-none}
 use Rattle.dates.specs.declared.date.Date.{Date}
 use Rattle.sheet.specs.Limits.{mostMarks, entries}
-use Rattle.sheet.specs.Record.{Record, sheetOf, opened}
+use Rattle.sheet.specs.Record.{sheetOf, opened}
 use Rattle.sheet.specs.Calls.{didOf}
 use Rattle.sheet.specs.declared.Sheet.{Sheet}
 use Rattle.sheet.specs.declared.Answer.{Answer}
@@ -28,7 +28,6 @@ use Rattle.machine.proofs.Outputs.{stepped-one, stopped-one}
 use Rattle.lines.specs.declared.Order.the-variants.{Make, End, Unreadable}
 use Rattle.year_lines.specs.declared.Named.{Named}
 use Rattle.year_lines.specs.declared.Named.the-variants.{Year as YearNamed, NoYear}
-use Rattle.year_lines.specs.declared.Slip.{Slip}
 use Rattle.year_lines.specs.declared.Slip.the-variants.{Dated, Plain}
 use Rattle.year_lines.specs.Slips.{RowNames, RowAsks}
 use Rattle.desk.specs.Prints.{firstNumber, firstRecord}
@@ -39,8 +38,8 @@ use Rattle.bookings.proofs.Sequences.{marks-after}
 use Rattle.bookings.proofs.Bookings.{record-more, last-now, month-now, kept-good}
 use Rattle.bookings.proofs.After.{booked, not-booked, date-good, date-bad, record-undated, last-after-undated}
 use Rattle.year.specs.Prints.{page, State, first, named, going, over, opening, names, nameless, opens, shut, stock, late, dated, unread, ended, Step, Stop, months}
-use Rattle.year.specs.States.{stageIn, historyIn, closedBefore, yearWith, yearOf, In}
-use Rattle.year.specs.Parts.{beginning, closedWith, atStage, GoesOn, TotalsTo, PageLaid, SteppedTo, AnswersSlip, rowsRoom}
+use Rattle.year.specs.States.{stageIn, closedBefore, yearWith, In}
+use Rattle.year.specs.Parts.{beginning, closedWith, atStage, GoesOn, PageLaid, SteppedTo, rowsRoom}
 use Rattle.year.specs.declared.stages.Stage.{Stage}
 use Rattle.year.specs.declared.stages.Stage.the-variants.{Naming, Opening, Going, Over}
 use Rattle.year.specs.declared.stages.Year.{Year}

@@ -1,10 +1,9 @@
 -- The rows of the first months stand, in an area that keeps its length.
-use Prim.Native.Nat.{ℕ, suc, _≤_, _+_, _*_, _-_}
+use Prim.Native.Nat.{ℕ, _≤_, _+_, _*_, _-_}
 use mathlib.Core.Path.{_≡_, refl, sym, ap, _∙_}
 use native.Mathlib.Omega.{arith}
 use mathlib.Core.List.{_++_}
 use lib.ListN.{length, getD}
-use borrow.Author.Needs.{needs}
 use Rattle.ground.specs.Areas.{Wrote}
 use Rattle.ground.proofs.Areas.{wrote-none, wrote-then, wrote-text, wrote-length}
 use Rattle.year.specs.Prints.{monthRow, monthRows}

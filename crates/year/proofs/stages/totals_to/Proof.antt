@@ -1,5 +1,4 @@
 -- The months that are over since the last accepted date, if any, have the total of the sheet.
-use mathlib.Core.Path.{_∙_}
 use native.Mathlib.Omega.{arith}
 use borrow.Author.Needs.{needs}
 use Rattle.year.proofs.Steps.{month-few, totals-same, totals-more}
