@@ -2,3 +2,4 @@ pub mod Laid
 pub mod AtHand
 pub mod Pieces
 pub mod Outputs
+pub mod Steps
