@@ -1,13 +1,10 @@
 -- A booking that is accepted is added, a refused one leaves the history; and so a history that a year can have stays one.
-use Prim.Native.Nat.{ℕ}
-use mathlib.Core.Path.{_≡_, refl, sym, ap, _∙_, subst}
+use mathlib.Core.Path.{_≡_, sym, ap, _∙_, subst}
 use mathlib.Core.Bool.{Bool, true, false, cond}
 use native.Mathlib.Omega.{arith}
-use lib.Dec.{eqb}
 use borrow.Author.Tests.{eq-eqb, ne-eqb}
 use Rattle.ground.proofs.Cases.{if, same-or}
 use Rattle.dates.specs.declared.date.Date.{Date}
-use Rattle.sheet.specs.Record.{Record}
 use Rattle.sheet.specs.declared.Call.{Call}
 use Rattle.histories.specs.Histories.{numberOf, accepted, after}
 use Rattle.bookings.specs.Bookings.{Booking, undated, on, History, recordNow, lastDate, dateOk, bookingNumber, withBooking, afterBooking}

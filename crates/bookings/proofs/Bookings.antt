@@ -1,8 +1,8 @@
 -- A month's total is fixed when a later month begins: what is booked then is after the month's last day (`month-before`), and until then all that is
 -- booked is not after it (`month-now`).
-use Prim.Native.Nat.{ℕ, suc, _≤_, _<_}
+use Prim.Native.Nat.{ℕ, _≤_, _<_}
 use mathlib.Core.Path.{_≡_, refl, sym, ap, _∙_, subst}
-use mathlib.Core.Bool.{Bool, true, false, not, cond, _&&_}
+use mathlib.Core.Bool.{Bool, true, false, not}
 use mathlib.Core.List.{List, [], _∷_, _++_}
 use native.Mathlib.Omega.{arith}
 use lib.Dec.{eqb}
@@ -11,11 +11,11 @@ use Rattle.ground.proofs.Cases.{if, and-left, and-right, below-or}
 use Rattle.dates.specs.Gregorian.{daysIn, isDay, earlier, lastDay}
 use Rattle.dates.specs.declared.date.Date.{Date}
 use Rattle.dates.proofs.Calendar.{day-month, not-past, past, month-kept}
-use Rattle.sheet.specs.Record.{Record, opened}
+use Rattle.sheet.specs.Record.{opened}
 use Rattle.sheet.specs.declared.Call.{Call}
 use Rattle.listing.specs.Listing.{totalOf}
 use Rattle.histories.specs.Histories.{Good, numberOf, accepted, afterAll}
-use Rattle.bookings.specs.Bookings.{Booking, undated, on, History, begun, callOf, calls, any, upTo, recordBy, recordNow, monthTotal, lastOf, lastDate, dateOk, withBooking}
+use Rattle.bookings.specs.Bookings.{Booking, undated, on, History, begun, callOf, calls, any, upTo, recordNow, monthTotal, lastOf, lastDate, dateOk, withBooking}
 use Rattle.bookings.specs.Months.{Accepts, none, Kept}
 use Rattle.bookings.proofs.Sequences.{after-more, accepts-more, accepts-good}
 

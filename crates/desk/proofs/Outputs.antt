@@ -85,6 +85,11 @@ pub good-one : Good (opened 1)
 unfolding marksOk
 good-one = good-opened 1 refl
 
+-- the sheet that line 1 opens is an opened one
+pub first-record : (f : First) → firstRecord f ≡ opened (firstRecord f .marks)
+first-record (Marks n) = if (marksOk mostMarks n) (λ e. rw e) (λ e. rw e)
+first-record NotMarks = refl
+
 pub good-first : (f : First) → Good (firstRecord f)
 good-first (Marks n) = if (marksOk mostMarks n) (λ e. rw e (good-opened n e)) (λ e. rw e good-one)
 good-first NotMarks = good-one

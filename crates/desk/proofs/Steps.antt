@@ -1,12 +1,10 @@
 -- A line at the desk, and the end of the input: what the calls of the code tell is a step from the desk's state.
 use Prim.Native.Nat.{ℕ, _≤_}
-use mathlib.Core.Path.{_≡_, sym, ap, _∙_, subst}
-use mathlib.Core.Bool.{Bool, cond}
+use mathlib.Core.Path.{_≡_, refl, sym, ap, _∙_, subst}
 use mathlib.Core.List.{List, []}
 use native.Mathlib.Omega.{arith}
-use borrow.Author.Tests.{eq-eqb, ne-eqb}
 use Rattle.ground.specs.Areas.{Wrote}
-use Rattle.ground.proofs.Areas.{wrote-text, wrote-none}
+use Rattle.ground.proofs.Areas.{wrote-none}
 use Rattle.ground.proofs.Cases.{if}
 use Rattle.sheet.specs.Limits.{mostMarks, entries, marksOk}
 use Rattle.sheet.specs.Record.{Record, sheetOf, opened}
@@ -17,9 +15,10 @@ use Rattle.sheet.specs.declared.Call.{Call}
 use Rattle.histories.specs.Histories.{numberOf, after}
 use Rattle.histories.proofs.Kept.{did-kept}
 use Rattle.machine.specs.Rows.{Row}
-use Rattle.machine.specs.Machine.{refusal, spoken}
+use Rattle.machine.specs.Machine.{spoken}
 use Rattle.machine.specs.Steps.{pageRoom, StoppedBy}
 use Rattle.machine.proofs.Outputs.{stepped-one, stopped-one}
+use Rattle.machine.proofs.Steps.{answered, refused}
 use Rattle.lines.specs.declared.Order.{Order}
 use Rattle.lines.specs.declared.Order.the-variants.{Make, End, Unreadable}
 use Rattle.lines.specs.declared.First.{First}
@@ -54,7 +53,7 @@ first-settled f g =
 -- line 1
 
 module _ {row : Row} {a : Answer} (f : FirstAnswered row a) where
-  number-is : a .number ≡ firstNumber (f .says)
+  pub number-is : a .number ≡ firstNumber (f .says)
   number-is = ap (λ (x : Answer). x .number) (f .is)
 
   desk-is : (stage : Stage) → _≡_ {A = Desk} (record { stage = stage; sheet = a .sheet }) (record { stage = stage; sheet = sheetOf entries (firstRecord (f .says)) })
@@ -63,25 +62,12 @@ module _ {row : Row} {a : Answer} (f : FirstAnswered row a) where
   module _ {k w : ℕ} {out later : List ℕ} where
     pub first-opened : Wrote out 0 (spoken k (a .number)) w later → w ≤ pageRoom → a .number ≡ 0
         → SteppedTo k first row out (ledTo Going (a .sheet) w) later
-    first-opened p short z = record {
-      state = going (firstRecord (f .says));
-      said = [];
-      step = opens (f .opens) (sym number-is ∙ z);
-      is = desk-is Going;
-      laid = wrote-text (ap (λ (t : Bool). cond t [] (refusal k (a .number))) (eq-eqb (a .number) 0 z)) p;
-      short = short;
-    }
+    first-opened p short z = answered (going (firstRecord (f .says))) 0 (opens (f .opens) (sym number-is ∙ z)) (desk-is Going) z p short
 
     pub first-shut : Wrote out 0 (spoken k (a .number)) w later → w ≤ pageRoom → (a .number ≡ 0 → ⊥)
         → SteppedTo k first row out (ledTo Over (a .sheet) w) later
-    first-shut p short n = record {
-      state = over (firstRecord (f .says));
-      said = refusal k (firstNumber (f .says));
-      step = shut (f .opens) (λ y. n (number-is ∙ y));
-      is = desk-is Over;
-      laid = wrote-text (ap (λ (t : Bool). cond t [] (refusal k (a .number))) (ne-eqb (a .number) 0 n) ∙ ap (refusal k) number-is) p;
-      short = short;
-    }
+    first-shut p short n =
+        refused (over (firstRecord (f .says))) (firstNumber (f .says)) (shut (f .opens) (λ y. n (number-is ∙ y))) (desk-is Over) number-is n p short
 
 -- a later line
 
@@ -99,18 +85,12 @@ module _ {sheet : Sheet} {r : Record} (of : OfRecord sheet r) where
       later-made {c} {a} q e p short =
           let is : a ≡ record { number = numberOf r c; sheet = sheetOf entries (after r c) } =
           e ∙ ap (λ (s : Sheet). didOf mostMarks s c) (of .is) ∙ did-kept r (of .good) c in
-          record {
-            state = going (after r c);
-            said = spoken k (numberOf r c);
-            step = made (asks q);
-            is = ap (λ (x : Answer). record { stage = Going; sheet = x .sheet }) is;
-            laid = wrote-text (ap (λ (x : Answer). spoken k (x .number)) is) p;
-            short = short;
-          }
+          answered (going (after r c)) (numberOf r c) (made (asks q)) (ap (λ (x : Answer). record { stage = Going; sheet = x .sheet }) is)
+          (ap (λ (x : Answer). x .number) is) p short
 
       pub later-unread : o ≡ Unreadable → Wrote out 0 (spoken k 10) w later → w ≤ pageRoom
           → SteppedTo k (going r) row out (ledTo Going sheet w) later
-      later-unread q p short = record { state = going r; said = refusal k 10; step = unread (asks q); is = desk-kept Going; laid = p; short = short }
+      later-unread q p short = answered (going r) 10 (unread (asks q)) (desk-kept Going) refl p short
 
       pub later-ended : o ≡ End → Printed r out 0 w later
           → SteppedTo k (going r) row out (ledTo Over sheet w) later

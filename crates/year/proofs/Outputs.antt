@@ -4,10 +4,8 @@ use mathlib.Core.Path.{_≡_, refl, sym, ap, _∙_, subst}
 use mathlib.Core.Bool.{Bool, true, false, true≢false}
 use mathlib.Core.List.{List, []}
 use native.Mathlib.Omega.{arith}
-use Rattle.ground.proofs.Cases.{if, same-or}
+use Rattle.ground.proofs.Cases.{same-or}
 use Rattle.dates.specs.declared.date.Date.{Date}
-use Rattle.sheet.specs.Limits.{mostMarks, marksOk}
-use Rattle.sheet.specs.Record.{opened}
 use Rattle.histories.specs.Histories.{Good}
 use Rattle.machine.specs.Rows.{Row}
 use Rattle.machine.specs.Machine.{refusal, spoken}
@@ -15,8 +13,6 @@ use Rattle.machine.specs.Answers.{OneAnswer, SomeAnswer}
 use Rattle.machine.proofs.Outputs.{can-step, one-output}
 use Rattle.lines.specs.declared.Order.the-variants.{Make, End, Unreadable}
 use Rattle.lines.specs.declared.First.{First}
-use Rattle.lines.specs.declared.First.the-variants.{Marks, NotMarks}
-use Rattle.lines.specs.Words.{RowOpens}
 use Rattle.lines.proofs.Settled.{row-opens-settled}
 use Rattle.lines.proofs.Decided.{row-opens-decided}
 use Rattle.year_lines.specs.declared.Named.{Named}
@@ -27,8 +23,8 @@ use Rattle.year_lines.specs.Slips.{RowNames, RowAsks}
 use Rattle.year_lines.proofs.Settled.{row-names-settled, row-asks-settled}
 use Rattle.year_lines.proofs.Decided.{row-names-decided, row-asks-decided}
 use Rattle.desk.specs.Prints.{firstNumber, firstRecord}
-use Rattle.desk.proofs.Outputs.{good-one, good-first}
-use Rattle.bookings.specs.Bookings.{undated, on, History, begun, lastDate, bookingNumber, afterBooking}
+use Rattle.desk.proofs.Outputs.{good-one, first-record, good-first}
+use Rattle.bookings.specs.Bookings.{undated, on, History, begun, bookingNumber, afterBooking}
 use Rattle.bookings.specs.Months.{Kept}
 use Rattle.bookings.proofs.Bookings.{kept-begun}
 use Rattle.bookings.proofs.After.{kept-after-undated, kept-after-on, last-after-undated}
@@ -113,15 +109,11 @@ one-answer = record { step = step-one; stop = stop-one }
 
 -- some output, and the states stay those that a session can be in
 
-pub first-opened : (f : First) → firstRecord f ≡ opened (firstRecord f .marks)
-first-opened (Marks n) = if (marksOk mostMarks n) (λ e. rw e) (λ e. rw e)
-first-opened NotMarks = refl
-
 pub good-start : (y : ℕ) → Kept (begun y 1)
 good-start y = kept-begun y 1 good-one
 
 pub good-opening : (y : ℕ) (f : First) → Kept (opening y f)
-good-opening y f = kept-begun y (firstRecord f .marks) (subst Good (first-opened f) (good-first f))
+good-opening y f = kept-begun y (firstRecord f .marks) (subst Good (first-record f) (good-first f))
 
 sensible-led : (k : ℕ) (b : Bool) (h : History) (s : Slip) → Sensible (going b h) → Sensible (led k b h s .0)
 sensible-led k true h (Dated d c) w = (kept-after-on (w .0) d c, λ z. absurd (true≢false z))

@@ -1,16 +1,16 @@
 -- A line in a session: what the calls of the code tell is a step from the session's state.
 use Prim.Native.Nat.{ℕ, _≤_}
 use mathlib.Core.Path.{_≡_, refl, sym, ap, _∙_, subst}
-use mathlib.Core.Bool.{Bool, true, false, cond, true≢false}
+use mathlib.Core.Bool.{Bool, true, false, cond}
 use mathlib.Core.List.{List, []}
 use native.Mathlib.Omega.{arith}
 use lib.ListN.{replicate}
-use borrow.Author.Tests.{eq-eqb, ne-eqb}
+use borrow.Author.Tests.{eq-eqb}
 use Rattle.ground.specs.Areas.{Wrote}
-use Rattle.ground.proofs.Areas.{wrote-text, wrote-none}
+use Rattle.ground.proofs.Areas.{wrote-none}
 use Rattle.dates.specs.declared.date.Date.{Date}
 use Rattle.sheet.specs.Limits.{mostMarks, entries}
-use Rattle.sheet.specs.Record.{Record, sheetOf, opened}
+use Rattle.sheet.specs.Record.{sheetOf, opened}
 use Rattle.sheet.specs.Calls.{didOf}
 use Rattle.sheet.specs.declared.Sheet.{Sheet}
 use Rattle.sheet.specs.declared.Answer.{Answer}
@@ -25,28 +25,30 @@ use Rattle.machine.specs.Rows.{Row}
 use Rattle.machine.specs.Machine.{refusal, spoken}
 use Rattle.machine.specs.Steps.{pageRoom, StoppedBy}
 use Rattle.machine.proofs.Outputs.{stepped-one, stopped-one}
+use Rattle.machine.proofs.Steps.{answered, refused}
 use Rattle.lines.specs.declared.Order.the-variants.{Make, End, Unreadable}
 use Rattle.year_lines.specs.declared.Named.{Named}
 use Rattle.year_lines.specs.declared.Named.the-variants.{Year as YearNamed, NoYear}
-use Rattle.year_lines.specs.declared.Slip.{Slip}
 use Rattle.year_lines.specs.declared.Slip.the-variants.{Dated, Plain}
 use Rattle.year_lines.specs.Slips.{RowNames, RowAsks}
 use Rattle.desk.specs.Prints.{firstNumber, firstRecord}
 use Rattle.desk.specs.Parts.{FirstAnswered}
+use Rattle.desk.proofs.Outputs.{first-record}
+use Rattle.desk.proofs.Steps.{number-is}
 use Rattle.bookings.specs.Bookings.{undated, on, History, begun, calls, any, recordNow, monthTotal, lastDate, dateOk, bookingNumber, withBooking, afterBooking}
 use Rattle.bookings.specs.Months.{Kept}
 use Rattle.bookings.proofs.Sequences.{marks-after}
 use Rattle.bookings.proofs.Bookings.{record-more, last-now, month-now, kept-good}
 use Rattle.bookings.proofs.After.{booked, not-booked, date-good, date-bad, record-undated, last-after-undated}
 use Rattle.year.specs.Prints.{page, State, first, named, going, over, opening, names, nameless, opens, shut, stock, late, dated, unread, ended, Step, Stop, months}
-use Rattle.year.specs.States.{stageIn, historyIn, closedBefore, yearWith, yearOf, In}
-use Rattle.year.specs.Parts.{beginning, closedWith, atStage, GoesOn, TotalsTo, PageLaid, SteppedTo, AnswersSlip, rowsRoom}
+use Rattle.year.specs.States.{stageIn, closedBefore, yearWith, In}
+use Rattle.year.specs.Parts.{beginning, closedWith, atStage, GoesOn, PageLaid, SteppedTo, rowsRoom}
 use Rattle.year.specs.declared.stages.Stage.{Stage}
 use Rattle.year.specs.declared.stages.Stage.the-variants.{Naming, Opening, Going, Over}
 use Rattle.year.specs.declared.stages.Year.{Year}
 use Rattle.year.specs.declared.stages.Stepped.{Stepped}
 use Rattle.year.proofs.Totals.{closed-none, closed-more, closed-kept}
-use Rattle.year.proofs.Outputs.{one-answer, first-opened}
+use Rattle.year.proofs.Outputs.{one-answer}
 
 closed-january : (m : ℕ) (totals : ℕ → ℕ) → m ≡ 1 → closedBefore m totals ≡ replicate 12 0
 closed-january m totals e = ap (λ (x : ℕ). closedBefore x totals) e ∙ closed-none totals
@@ -77,44 +79,24 @@ module _ {row : Row} {k : ℕ} {out : List ℕ} {year : Year} where
 
   pub line-nameless : {w : ℕ} {later : List ℕ} {n : Named} {sheet : Sheet} → RowNames row n → n ≡ NoYear → sheet ≡ sheetOf entries (opened 1) → year ≡ beginning Over 0 sheet
       → Wrote out 0 (refusal k 10) w later → w ≤ pageRoom → SteppedTo k first row out (record { year = year; wrote = w }) later
-  line-nameless r q e is p short = record {
-    state = over (begun 0 1);
-    said = refusal k 10;
-    step = nameless (subst (RowNames row) q r);
-    is = is ∙ begun-is Over 0 1 e;
-    laid = p;
-    short = short;
-  }
+  line-nameless r q e is p short = answered (over (begun 0 1)) 10 (nameless (subst (RowNames row) q r)) (is ∙ begun-is Over 0 1 e) refl p short
 
 module _ {row : Row} {a : Answer} (f : FirstAnswered row a) where
-  number-is : a .number ≡ firstNumber (f .says)
-  number-is = ap (λ (x : Answer). x .number) (f .is)
-
   sheet-opened : a .sheet ≡ sheetOf entries (opened (firstRecord (f .says) .marks))
-  sheet-opened = ap (λ (x : Answer). x .sheet) (f .is) ∙ ap (sheetOf entries) (first-opened (f .says))
+  sheet-opened = ap (λ (x : Answer). x .sheet) (f .is) ∙ ap (sheetOf entries) (first-record (f .says))
 
   module _ {k w y : ℕ} {out later : List ℕ} {year : Year} where
     pub marks-opened : year ≡ beginning Going y (a .sheet) → Wrote out 0 (spoken k (a .number)) w later → w ≤ pageRoom → a .number ≡ 0
         → SteppedTo k (named y) row out (record { year = year; wrote = w }) later
-    marks-opened is p short z = record {
-      state = going false (opening y (f .says));
-      said = [];
-      step = opens (f .opens) (sym number-is ∙ z);
-      is = is ∙ begun-is Going y (firstRecord (f .says) .marks) sheet-opened;
-      laid = wrote-text (ap (λ (t : Bool). cond t [] (refusal k (a .number))) (eq-eqb (a .number) 0 z)) p;
-      short = short;
-    }
+    marks-opened is p short z =
+        answered (going false (opening y (f .says))) 0 (opens (f .opens) (sym (number-is f) ∙ z))
+        (is ∙ begun-is Going y (firstRecord (f .says) .marks) sheet-opened) z p short
 
     pub marks-shut : year ≡ beginning Over y (a .sheet) → Wrote out 0 (spoken k (a .number)) w later → w ≤ pageRoom → (a .number ≡ 0 → ⊥)
         → SteppedTo k (named y) row out (record { year = year; wrote = w }) later
-    marks-shut is p short n = record {
-      state = over (opening y (f .says));
-      said = refusal k (firstNumber (f .says));
-      step = shut (f .opens) (λ z. n (number-is ∙ z));
-      is = is ∙ begun-is Over y (firstRecord (f .says) .marks) sheet-opened;
-      laid = wrote-text (ap (λ (t : Bool). cond t [] (refusal k (a .number))) (ne-eqb (a .number) 0 n) ∙ ap (refusal k) number-is) p;
-      short = short;
-    }
+    marks-shut is p short n =
+        refused (over (opening y (f .says))) (firstNumber (f .says)) (shut (f .opens) (λ z. n (number-is f ∙ z)))
+        (is ∙ begun-is Over y (firstRecord (f .says) .marks) sheet-opened) (number-is f) n p short
 
 -- behind line 2
 
@@ -150,8 +132,8 @@ module _ {y : Year} {b : Bool} {h : History} (i : In y (going b h)) where
   ok-is : (d : Date) → dateOk (y .last .year) (y .last) d ≡ dateOk (h .year) (lastDate h) d
   ok-is d = ap (λ (l : Date). dateOk (l .year) l d) last-is ∙ ap (λ (n : ℕ). dateOk n (lastDate h) d) (kept .year)
 
-  day-number : {a : Answer} (d : Date) (c : Call) → dateOk (y .last .year) (y .last) d ≡ true → a ≡ didOf mostMarks (y .sheet) c → bookingNumber h (on d c) ≡ a .number
-  day-number d c ok did = date-good h d c (sym (ok-is d) ∙ ok) ∙ sym (ap (λ (x : Answer). x .number) (did-is c did))
+  day-number : {a : Answer} (d : Date) (c : Call) → dateOk (y .last .year) (y .last) d ≡ true → a ≡ didOf mostMarks (y .sheet) c → a .number ≡ bookingNumber h (on d c)
+  day-number d c ok did = ap (λ (x : Answer). x .number) (did-is c did) ∙ sym (date-good h d c (sym (ok-is d) ∙ ok))
 
   -- the totals of the months that are over
 
@@ -174,14 +156,7 @@ module _ {y : Year} {b : Bool} {h : History} (i : In y (going b h)) where
         → SteppedTo k (going b h) row out (record { year = y; wrote = w }) later
     undated-late {c} e r p short =
         let q : b ≡ true = sym dated-is ∙ e in
-        record {
-          state = going b h;
-          said = refusal k 10;
-          step = subst (λ (t : Bool). Step k (going t h) row (going t h) (refusal k 10)) (sym q) (late r);
-          is = i .is;
-          laid = p;
-          short = short;
-        }
+        answered (going b h) 10 (subst (λ (t : Bool). Step k (going t h) row (going t h) (refusal k 10)) (sym q) (late r)) (i .is) refl p short
 
     pub undated-stock : {c : Call} {a : Answer} → y .dated ≡ false → RowAsks (h .marks) row (Plain (Make c)) → a ≡ didOf mostMarks (y .sheet) c
         → Wrote out 0 (spoken k (a .number)) w later → w ≤ pageRoom
@@ -197,45 +172,33 @@ module _ {y : Year} {b : Bool} {h : History} (i : In y (going b h)) where
         let last : y .last ≡ lastDate (afterBooking h (undated c)) = last-is ∙ sym stays in
         let closed : y .closed ≡ closedBefore (lastDate (afterBooking h (undated c)) .month) (monthTotal (afterBooking h (undated c))) =
         closed-is ∙ closed-january _ (monthTotal h) january ∙ sym (closed-january _ (monthTotal (afterBooking h (undated c))) (ap (λ (d : Date). d .month) stays ∙ january)) in
-        record {
-          state = going false (afterBooking h (undated c));
-          said = spoken k (bookingNumber h (undated c));
-          step = subst (λ (t : Bool). Step k (going t h) row (going false (afterBooking h (undated c))) (spoken k (bookingNumber h (undated c)))) (sym q) (stock r);
-          is = λ j. record { stage = Going; dated = false; sheet = sheet j; last = last j; closed = closed j };
-          laid = wrote-text (ap (λ (x : Answer). spoken k (x .number)) is) p;
-          short = short;
-        }
+        answered (going false (afterBooking h (undated c))) (bookingNumber h (undated c))
+        (subst (λ (t : Bool). Step k (going t h) row (going false (afterBooking h (undated c))) (spoken k (bookingNumber h (undated c)))) (sym q) (stock r))
+        (λ j. record { stage = Going; dated = false; sheet = sheet j; last = last j; closed = closed j }) (ap (λ (x : Answer). x .number) is) p short
 
     -- a call on a day
 
     module _ {d : Date} {c : Call} (r : RowAsks (h .marks) row (Dated d c)) where
-      not-taken : {year : Year} → (bookingNumber h (on d c) ≡ 0 → ⊥) → year ≡ atStage Going true y → Wrote out 0 (spoken k (bookingNumber h (on d c))) w later → w ≤ pageRoom
+      not-taken : {year : Year} {a : ℕ} → a ≡ bookingNumber h (on d c) → (a ≡ 0 → ⊥) → year ≡ atStage Going true y → Wrote out 0 (spoken k a) w later → w ≤ pageRoom
           → SteppedTo k (going b h) row out (record { year = year; wrote = w }) later
-      not-taken n e p short = record {
-        state = going true (afterBooking h (on d c));
-        said = spoken k (bookingNumber h (on d c));
-        step = dated r;
-        is = e ∙ ap (atStage Going true) (i .is) ∙ ap (yearWith Going true) (sym (not-booked h (on d c) n));
-        laid = p;
-        short = short;
-      }
+      not-taken q n e p short =
+          answered (going true (afterBooking h (on d c))) (bookingNumber h (on d c)) (dated r)
+          (e ∙ ap (atStage Going true) (i .is) ∙ ap (yearWith Going true) (sym (not-booked h (on d c) (λ z. n (q ∙ z))))) q p short
 
       pub day-bad : {year : Year} → dateOk (y .last .year) (y .last) d ≡ false → year ≡ atStage Going true y → Wrote out 0 (refusal k 11) w later → w ≤ pageRoom
           → SteppedTo k (going b h) row out (record { year = year; wrote = w }) later
-      day-bad e q p short =
-          let n : bookingNumber h (on d c) ≡ 11 = date-bad h d c (sym (ok-is d) ∙ e) in
-          not-taken (λ z. omega arith) q (wrote-text (ap (spoken k) (sym n)) p) short
+      day-bad e q p short = not-taken {a = 11} (sym (date-bad h d c (sym (ok-is d) ∙ e))) (λ z. omega arith) q p short
 
       module _ {a : Answer} (ok : dateOk (y .last .year) (y .last) d ≡ true) (did : a ≡ didOf mostMarks (y .sheet) c) where
         pub day-refused : {year : Year} → (a .number ≡ 0 → ⊥) → year ≡ atStage Going true y → Wrote out 0 (spoken k (a .number)) w later → w ≤ pageRoom
             → SteppedTo k (going b h) row out (record { year = year; wrote = w }) later
-        day-refused n q p short = not-taken (λ z. n (sym (day-number d c ok did) ∙ z)) q (wrote-text (ap (spoken k) (sym (day-number d c ok did))) p) short
+        day-refused n q p short = not-taken (day-number d c ok did) n q p short
 
         pub day-taken : {totals : List ℕ} → a .number ≡ 0 → totals ≡ closedBefore (d .month) (monthTotal h) → Wrote out 0 (spoken k (a .number)) w later → w ≤ pageRoom
             → SteppedTo k (going b h) row out
             (record { year = record { stage = Going; dated = true; sheet = a .sheet; last = d; closed = totals }; wrote = w }) later
         day-taken {totals} z t p short =
-            let z' : bookingNumber h (on d c) ≡ 0 = day-number d c ok did ∙ z in
+            let z' : bookingNumber h (on d c) ≡ 0 = sym (day-number d c ok did) ∙ z in
             let here = last-now kept d c (sym (ok-is d) ∙ ok) in
             let taken : after (recordNow h) c ≡ accepted (recordNow h) c =
             ap (λ (q : Bool). cond q (accepted (recordNow h) c) (recordNow h)) (eq-eqb (numberOf (recordNow h) c) 0 (sym (ap (λ (x : Answer). x .number) (did-is c did)) ∙ z)) in
@@ -245,20 +208,14 @@ module _ {y : Year} {b : Bool} {h : History} (i : In y (going b h)) where
             t ∙ closed-kept kept d c (sym (ok-is d) ∙ ok) ∙ ap (λ (e : Date). closedBefore (e .month) (monthTotal (withBooking h (on d c)))) (sym here) in
             let is : record { stage = Going; dated = true; sheet = a .sheet; last = d; closed = totals } ≡ yearWith Going true (withBooking h (on d c)) =
             λ j. record { stage = Going; dated = true; sheet = sheet j; last = sym here j; closed = closed j } in
-            record {
-              state = going true (afterBooking h (on d c));
-              said = spoken k (bookingNumber h (on d c));
-              step = dated r;
-              is = is ∙ ap (yearWith Going true) (sym (booked h (on d c) z'));
-              laid = wrote-text (ap (spoken k) (sym (day-number d c ok did))) p;
-              short = short;
-            }
+            answered (going true (afterBooking h (on d c))) (bookingNumber h (on d c)) (dated r) (is ∙ ap (yearWith Going true) (sym (booked h (on d c) z')))
+            (day-number d c ok did) p short
 
     -- a line that cannot be read, and `end`
 
     pub plain-unread : RowAsks (h .marks) row (Plain Unreadable) → Wrote out 0 (refusal k 10) w later → w ≤ pageRoom
         → SteppedTo k (going b h) row out (record { year = y; wrote = w }) later
-    plain-unread r p short = record { state = going b h; said = refusal k 10; step = unread r; is = i .is; laid = p; short = short }
+    plain-unread r p short = answered (going b h) 10 (unread r) (i .is) refl p short
 
     pub plain-ended : {year : Year} → RowAsks (h .marks) row (Plain End) → year ≡ atStage Over false y → Wrote out 0 (page h) w later → w ≤ rowsRoom
         → SteppedTo k (going b h) row out (record { year = year; wrote = w }) later

@@ -1,7 +1,7 @@
 -- The totals of the months that are over: entry by entry, each is its month's total (`closed-more`), which a later booking leaves (`closed-kept`).
 use Prim.Native.Nat.{ℕ, zero, suc, _+_, _-_, _^_, _≤_, _<_}
 use mathlib.Core.Path.{_≡_, refl, sym, ap, ap₂, _∙_}
-use mathlib.Core.Bool.{Bool, true, false, cond, _&&_}
+use mathlib.Core.Bool.{true, cond, _&&_}
 use mathlib.Core.List.{List, _++_}
 use native.Mathlib.Numerals.{add-one}
 use native.Mathlib.Omega.{arith}
@@ -19,7 +19,7 @@ use Rattle.dates.specs.Texts.{digits}
 use Rattle.dates.proofs.Numbers.{digits-length}
 use Rattle.dates.specs.declared.date.Date.{Date}
 use Rattle.sheet.specs.declared.Call.{Call}
-use Rattle.bookings.specs.Bookings.{on, History, recordNow, monthTotal, lastDate, dateOk, withBooking}
+use Rattle.bookings.specs.Bookings.{on, History, monthTotal, lastDate, dateOk, withBooking}
 use Rattle.bookings.specs.Months.{Kept}
 use Rattle.bookings.proofs.Bookings.{month-before}
 use Rattle.year.specs.Prints.{monthRow, monthRows}

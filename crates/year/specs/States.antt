@@ -5,10 +5,8 @@ use mathlib.Core.Bool.{Bool, true, false, cond}
 use mathlib.Core.List.{List}
 use lib.Dec.{ltb}
 use Rattle.tables.specs.Tables.{tab}
-use Rattle.dates.specs.declared.date.Date.{Date}
 use Rattle.sheet.specs.Limits.{entries}
 use Rattle.sheet.specs.Record.{sheetOf}
-use Rattle.sheet.specs.declared.Sheet.{Sheet}
 use Rattle.bookings.specs.Bookings.{History, begun, recordNow, monthTotal, lastDate}
 use Rattle.bookings.specs.Months.{Kept}
 use Rattle.year.specs.Prints.{State, first, named, going, over}

@@ -1,7 +1,7 @@
 // The stages of a session: a state by value, and what a line and the end of the input do to it.
 ghost use mathlib.Core.Path.{_≡_};
 ghost use mathlib.Core.Bool.{Bool};
-ghost use Prim.Native.Nat.{ℕ, _+_, _≤_};
+ghost use Prim.Native.Nat.{_+_, _≤_};
 ghost use lib.ListN.{length};
 ghost use Rattle.machine.specs.AtHand.{rowOf, LineFits};
 ghost use Rattle.machine.specs.Steps.{pageRoom, StoppedBy};

@@ -1,10 +1,9 @@
 -- The rows of the first months stand, in an area that keeps its length.
-use Prim.Native.Nat.{ℕ, suc, _≤_, _+_, _*_, _-_}
+use Prim.Native.Nat.{ℕ, _≤_, _+_, _*_, _-_}
 use mathlib.Core.Path.{_≡_, refl, sym, ap, _∙_}
 use native.Mathlib.Omega.{arith}
 use mathlib.Core.List.{_++_}
 use lib.ListN.{length, getD}
-use borrow.Author.Needs.{needs}
 use Rattle.ground.specs.Areas.{Wrote}
 use Rattle.ground.proofs.Areas.{wrote-none, wrote-then, wrote-text, wrote-length}
 use Rattle.year.specs.Prints.{monthRow, monthRows}
@@ -46,7 +45,7 @@ loop-again c =
     let f = monthIn (s .args .totals .now) in
     let z : l .month + 1 - 1 ≡ l .month = omega arith in
     let x = getD (s .args .totals .now) (l .month) 0 in
-    let w = c .before .before .put-row .ensures in
+    let w = wrote-text (refl {a = monthRow (l .month + 1) x}) (c .before .before .put-row .ensures) in
     let h = c .before .before .before .before .shared-slice-known2 .given (l .month) in
     let small = row-length (l .month + 1) x (omega (arith, h)) in (
       omega arith,

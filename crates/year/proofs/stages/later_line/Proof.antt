@@ -4,7 +4,6 @@ use mathlib.Core.Path.{subst}
 use native.Mathlib.Omega.{arith}
 use borrow.Author.Needs.{needs}
 use Rattle.machine.specs.AtHand.{rowOf}
-use Rattle.year_lines.specs.declared.Slip.{Slip}
 use Rattle.year_lines.specs.Slips.{RowAsks}
 use Rattle.year.proofs.Steps.{marks-is, marks-few}
 use Rattle.year.proofs.stages.later_line.Statement.{statement}

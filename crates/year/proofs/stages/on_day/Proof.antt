@@ -22,7 +22,7 @@ returns-2 : tie.Need-returns-2
 returns-2 c =
     λ b h row i r.
     let e : c .before .before .before .before .before .before .before .before .before .in-order .result ≡ true = not-false _ (c .before .before .before .before .before .before .before .before .if1 .left) in
-    day-refused i r (sym (c .before .before .before .before .before .before .before .before .before .in-order .ensures) ∙ e) (c .before .before .before .before .before .before .did .ensures) (c .if2 .taken) (c .before .before .before .before .before .before .before .before .before .before .before .at-stage .ensures) (c .before .before .before .before .spoken .ensures)
+    day-refused i r (sym (c .before .before .before .before .before .before .before .before .before .in-order .ensures) ∙ e) (c .before .before .before .before .before .before .did .ensures) (λ z. omega (arith, c .if2 .taken)) (c .before .before .before .before .before .before .before .before .before .before .before .at-stage .ensures) (c .before .before .before .before .spoken .ensures)
     (spoken-short (c .before .before .before .before .before .before .before .before .before .before .before .before .before .args .number) (c .before .before .before .before .before .before .did .result .number) (c .before .before .before .before .spoken .ensures) (omega arith) (omega arith))
 
 totals-to-requires : tie.Need-totals-to-requires
