@@ -1,6 +1,6 @@
 -- Demand 3, one call: on the sheet worked out afresh from a record, the program answers by the number worked out from the record alone, and
 -- leaves the sheet worked out afresh from the record after the call: the call shifts each quantity of the record as it shifts the table.
-use Prim.Native.Nat.{ℕ, _-_, _^_, _<_}
+use Prim.Native.Nat.{ℕ, _^_, _<_}
 use mathlib.Core.Path.{_≡_, refl, sym, _∙_, ap, ap₂}
 use mathlib.Core.Bool.{Bool, true, false, not, cond, _&&_, _||_}
 use native.Mathlib.Omega.{arith}

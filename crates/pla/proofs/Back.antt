@@ -1,10 +1,10 @@
 -- Reading what was written: the lines of the text one by one. No byte of a word is below 45, where newline, tab, space and `#` are.
 use Prim.Native.Nat.{ℕ, zero, suc, _+_, _≤_, _<_}
 use mathlib.Core.Path.{_≡_, refl, sym, ap, subst, fun-ext, _∙_}
-use mathlib.Core.Bool.{Bool, true, false, not}
+use mathlib.Core.Bool.{Bool, true, false}
 use mathlib.Core.List.{List, [], _∷_, _++_, append-assoc, append-nil}
 use native.Mathlib.Omega.{arith}
-use lib.Dec.{eqb, ltb}
+use lib.Dec.{eqb}
 use lib.ListN.{length, getD}
 use borrow.Author.Tests.{eq-eqb, ne-eqb, lt-ltb}
 use Rattle.ground.specs.Texts.{ascii}
@@ -17,8 +17,8 @@ use Rattle.sheet.specs.Limits.{marksOk}
 use Rattle.sheet.proofs.Tests.{some-marks}
 use Rattle.stored.specs.Fields.{Outcome, good}
 use Rattle.pla.specs.Texts.{betweenFrom, isNewline, linesOf, beforeComment, isGap, filled, wordsOf}
-use Rattle.pla.specs.Sayings.{Saying, inputs, output, count, cube, end, Says, dot-i, dot-o, dot-p, drawn, dot-e}
-use Rattle.pla.specs.Reading.{Count, uncounted, counted, Said, nothingSaid, comesTo, on, stop, judge, Run, stopped, taken, PlaSays}
+use Rattle.pla.specs.Sayings.{Saying, inputs, output, count, cube, Says, dot-i, dot-o, dot-p, drawn, dot-e}
+use Rattle.pla.specs.Reading.{Count, uncounted, counted, Said, nothingSaid, comesTo, on, judge, Run, stopped, taken, PlaSays}
 use Rattle.pla.specs.Writing.{cubeLines, plaText}
 
 -- no byte of the text passes the test

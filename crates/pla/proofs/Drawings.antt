@@ -10,7 +10,7 @@ use lib.Dec.{eqb, ltb}
 use lib.ListN.{length}
 use borrow.Author.Tests.{ltb-true, eqb-true}
 use Rattle.ground.specs.Decides.{Decides}
-use Rattle.ground.proofs.Cases.{if, clash, and-left}
+use Rattle.ground.proofs.Cases.{clash, and-left}
 use Rattle.boxes.specs.Boxes.{contains}
 use Rattle.boxes.proofs.Boxes.{contains-combination}
 use Rattle.lists.specs.Lists.{covered}

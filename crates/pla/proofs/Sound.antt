@@ -2,7 +2,6 @@
 use Prim.Native.Nat.{ℕ, _^_, _≤_}
 use mathlib.Core.List.{List}
 use native.Mathlib.Omega.{arith}
-use Rattle.boxes.specs.Sums.{sum}
 use Rattle.boxes.proofs.Sums.{sum-zero, sum-ext}
 use Rattle.sheet.specs.Record.{Record}
 use Rattle.sheet.specs.Sound.{Ready}

@@ -1,22 +1,22 @@
 -- What is kept of the lines that were read, line by line: a law for each way that a line can be judged.
 use Prim.Native.Nat.{ℕ, _+_, _^_, _≤_, _<_}
 use mathlib.Core.Path.{_≡_, refl, sym, ap, ap₂, subst, fun-ext, _∙_}
-use mathlib.Core.Bool.{Bool, true, false, not, _&&_, _||_, and-false}
+use mathlib.Core.Bool.{Bool, true, false, _&&_, _||_, and-false}
 use mathlib.Core.List.{List, [], _∷_, _++_}
 use native.Mathlib.Omega.{arith}
 use lib.Bits.{bitOr}
-use lib.Dec.{eqb, leb, ltb}
+use lib.Dec.{leb, ltb}
 use lib.ListN.{length, length-append}
 use borrow.Author.Tests.{eq-eqb, ne-eqb, lt-ltb, le-ltb, lt-leb}
 use Rattle.ground.proofs.Cases.{clash, below-or}
 use Rattle.lists.specs.Lists.{covered}
 use Rattle.lists.proofs.Count.{covered-last}
-use Rattle.sets.specs.Sets.{has, valueAt, AllSets}
+use Rattle.sets.specs.Sets.{valueAt, AllSets}
 use Rattle.sets.proofs.Bits.{has-zero, has-or}
 use Rattle.sheet.specs.Limits.{mostMarks, marksOk}
 use Rattle.sheet.proofs.Tests.{marks-most}
 use Rattle.stored.specs.Fields.{refused}
-use Rattle.pla.specs.Sayings.{inputs, output, count, cube, end}
+use Rattle.pla.specs.Sayings.{inputs, output, count, cube}
 use Rattle.pla.specs.Reading.{Count, uncounted, counted, isCounted, Said as Saids, nothingSaid, on, stop, judge}
 use Rattle.pla_lines.specs.Parts.{capped}
 use Rattle.pla_reading.specs.declared.said.Said.{Said}

@@ -15,7 +15,7 @@ use Rattle.stored.specs.Answers.{readOf}
 use Rattle.stored.specs.declared.Read.{Read}
 use Rattle.pla.specs.Texts.{betweenFrom, beforeComment, filled, linesOf, wordsOf}
 use Rattle.pla.specs.Sayings.{Saying, blank, inputs, output, count, cube, end, Says, no-word, dot-i, dot-o, dot-p, drawn, dot-e}
-use Rattle.pla.specs.Reading.{Said as Saids, nothingSaid, comesTo, on, stop, judge, Run, over, unreadable, stopped, taken, PlaSays}
+use Rattle.pla.specs.Reading.{Said as Saids, nothingSaid, comesTo, Run, over, unreadable, stopped, taken, PlaSays}
 use Rattle.pla.specs.Answers.{ReadsPla}
 use Rattle.pla_lines.specs.Lines.{firstLine, wordsIn}
 use Rattle.pla_lines.specs.Parts.{heardAs, Hears, said, unsaid}

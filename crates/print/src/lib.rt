@@ -1,6 +1,5 @@
 // Numbers, running times and patterns, written into a lent area: each call lays its text at a place and answers the next place.
 ghost use mathlib.Core.Path.{_≡_};
-ghost use mathlib.Core.List.{[]};
 ghost use Prim.Native.Nat.{_+_, _≤_, _<_};
 ghost use lib.ListN.{length};
 ghost use Rattle.print.specs.Texts.{decimal, clock, sign, pattern};

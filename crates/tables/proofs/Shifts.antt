@@ -1,6 +1,6 @@
 -- What a move at c does to a table is what the same shift of c's own does to every sum, so that sums stay sums; and a table worked out afresh,
 -- moved, is the one worked out afresh from what c has then.
-use Prim.Native.Nat.{ℕ, _-_, _^_, _<_, _≤_}
+use Prim.Native.Nat.{ℕ, _^_, _<_, _≤_}
 use mathlib.Core.Path.{_≡_, refl, sym, _∙_, ap}
 use mathlib.Core.Bool.{Bool, true, false, cond}
 use mathlib.Core.List.{List}

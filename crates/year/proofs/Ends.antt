@@ -10,7 +10,7 @@ use Rattle.ground.proofs.Cases.{same-or}
 use Rattle.dates.proofs.Dated.{dated-long}
 use Rattle.machine.specs.Rows.{judged}
 use Rattle.machine.specs.Machine.{refusal}
-use Rattle.machine.specs.Pieces.{Position, in-line, start, Takes, none, byte, newline, Finishes, InPieces, done, piece}
+use Rattle.machine.specs.Pieces.{Position, in-line, start, Takes, none, byte, newline, Finishes, done, piece}
 use Rattle.machine.proofs.Pieces.{any-pieces}
 use Rattle.lines.specs.declared.Order.the-variants.{End}
 use Rattle.lines.specs.Words.{said, ends}

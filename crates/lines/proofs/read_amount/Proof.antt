@@ -1,5 +1,4 @@
 -- Each way out is the law of what was tested; the part behind the space goes to the reader of times.
-use Prim.Native.Nat.{_-_}
 use mathlib.Core.Path.{sym}
 use native.Mathlib.Omega.{arith}
 use lib.Seq.{length-take-le}
