@@ -107,7 +107,7 @@ fn later_line(old: Sheet, line: Line, out: &mut [u8]) -> Stepped
     let m = old.marks;
     let order = lines::order_of(line, m);
     match order {
-        Order::Make(call) => {
+        Order::Make(call, _) => {
             let a = old.did(call);
             let new = a.sheet;
             let wrote = machine::spoken(out, line.number, a.number);

@@ -7,11 +7,12 @@ use boxes;
 use machine::Line;
 use sheet::Call;
 use times;
+use times::Form;
 use times::Time;
 
-// What a line behind line 1 asks for: a call on the sheet, or the end.
+// What a line behind line 1 asks for: a call on the sheet, with the form of its running time, or the end.
 pub enum Order {
-    Make(Call),
+    Make(Call, Form),
     End,
     Unreadable,
 }
@@ -30,7 +31,7 @@ pub enum Pattern {
 
 // What a part reads as that is to be P, one space and T.
 pub enum Amount {
-    Seconds(usize, u64),
+    Seconds(usize, u64, Form),
     NoAmount,
 }
 
@@ -75,10 +76,10 @@ fn read_amount(part: &[u8], m: usize) -> Amount
     };
     let after = m + 1;
     let time = times::read(&part[after..]);
-    let Time::Value(d) = time else {
+    let Time::Value(d, f) = time else {
         return Amount::NoAmount;
     };
-    Amount::Seconds(c, d)
+    Amount::Seconds(c, d, f)
 }
 
 // What the bytes of a line behind line 1 ask for, of a sheet with m marks.
@@ -91,28 +92,28 @@ pub fn read(line: &[u8], m: usize) -> Order
         let Pattern::Combination(c) = p else {
             return Order::Unreadable;
         };
-        return Order::Make(Call::Enter(c));
+        return Order::Make(Call::Enter(c), Form::NoTime);
     }
     if ground::begins(line, b"out ") {
         let p = read_pattern(&line[4..], m);
         let Pattern::Combination(c) = p else {
             return Order::Unreadable;
         };
-        return Order::Make(Call::Leave(c));
+        return Order::Make(Call::Leave(c), Form::NoTime);
     }
     if ground::begins(line, b"recv ") {
         let a = read_amount(&line[5..], m);
-        let Amount::Seconds(c, d) = a else {
+        let Amount::Seconds(c, d, f) = a else {
             return Order::Unreadable;
         };
-        return Order::Make(Call::Receive(c, d));
+        return Order::Make(Call::Receive(c, d), f);
     }
     if ground::begins(line, b"gone ") {
         let a = read_amount(&line[5..], m);
-        let Amount::Seconds(c, d) = a else {
+        let Amount::Seconds(c, d, f) = a else {
             return Order::Unreadable;
         };
-        return Order::Make(Call::Withdraw(c, d));
+        return Order::Make(Call::Withdraw(c, d), f);
     }
     if ground::begins(line, b"end") {
         if line.len() == 3 {

@@ -9,13 +9,14 @@ ghost use Rattle.sheet.specs.declared.Call.the-variants.{Enter, Leave, Receive,
 ghost use Rattle.listing.specs.Listing.{Listed, Totalled};
 ghost use Rattle.pla.specs.Answers.{ReadsPla, WritesPla};
 ghost use Rattle.times.specs.Answers.{Answered};
-ghost use Rattle.vault.specs.Entries.{Put, ChangesBy, Changes, Tells, Lends, Compared, KeptAt, same, replied, timeIn};
+ghost use Rattle.vault.specs.Entries.{Put, ChangesBy, Changes, Tells, Lends, Compared, KeptAt, same, replied};
 ghost use Rattle.vault.specs.Parts.{AnswerTo, LaidAs};
 use sheet::Answer;
 use sheet::Call;
 use sheet::Sheet;
 use sheet::Value;
 use stored::Read;
+use times::Reading;
 
 // What every entry returns: the number of 01's table, the place, which is 0 for every number but 10, and the value, which is 0 when refused.
 #[repr(C)]
@@ -302,15 +303,10 @@ pub extern "C" fn vault_before(first: &[u8], second: &[u8]) -> Reply
     })
 }
 
-// A running time.
+// A running time, with its form.
 #[no_mangle]
-pub extern "C" fn vault_read_time(text: &[u8]) -> Reply
-    ensures { λ r. ⌜ Answered (now (text .entry)) (timeIn r) ⌝ }
+pub extern "C" fn vault_read_time(text: &[u8]) -> Reading
+    ensures { λ r. ⌜ Answered (now (text .entry)) r ⌝ }
 {
-    let r = times::answer(text);
-    Reply {
-        answer: r.answer,
-        place: r.place,
-        value: r.value,
-    }
+    times::answer(text)
 }

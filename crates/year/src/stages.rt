@@ -5,6 +5,7 @@ ghost use Prim.Native.Nat.{_+_, _≤_};
 ghost use lib.ListN.{length};
 ghost use Rattle.machine.specs.AtHand.{rowOf, LineFits};
 ghost use Rattle.machine.specs.Steps.{pageRoom, StoppedBy};
+ghost use Rattle.times.specs.declared.Form.{Form};
 ghost use Rattle.lines.specs.declared.Order.the-variants.{Make};
 ghost use Rattle.year_lines.specs.declared.Slip.the-variants.{Dated, Plain};
 ghost use Rattle.bookings.specs.Bookings.{History, dateOk};
@@ -173,7 +174,7 @@ fn totals_to(y: Year, month: usize) -> [u64; 12]
 fn undated(y: Year, call: Call, number: u64, out: &mut [u8]) -> Stepped
     requires { ⌜ GoesOn y ⌝ }
     requires { ⌜ pageRoom ≤ length (now out) ⌝ }
-    ensures { λ r. ⌜ AnswersSlip y number (Plain (Make call)) (now (out .entry)) r (now (out .exit)) ⌝ }
+    ensures { λ r. ⌜ ((f : Form) → AnswersSlip y number (Plain (Make call f)) (now (out .entry)) r (now (out .exit))) ⌝ }
 {
     if y.dated {
         let wrote = machine::refusal(out, number, 10);
@@ -199,7 +200,7 @@ fn undated(y: Year, call: Call, number: u64, out: &mut [u8]) -> Stepped
 fn on_day(y: Year, date: Date, call: Call, number: u64, out: &mut [u8]) -> Stepped
     requires { ⌜ GoesOn y ⌝ }
     requires { ⌜ pageRoom ≤ length (now out) ⌝ }
-    ensures { λ r. ⌜ AnswersSlip y number (Dated date call) (now (out .entry)) r (now (out .exit)) ⌝ }
+    ensures { λ r. ⌜ ((f : Form) → AnswersSlip y number (Dated date call f) (now (out .entry)) r (now (out .exit))) ⌝ }
 {
     let begun = y.at_stage(Stage::Going, true);
     let last = y.last;
@@ -242,7 +243,7 @@ fn plain(y: Year, order: Order, number: u64, out: &mut [u8]) -> Stepped
     ensures { λ r. ⌜ AnswersSlip y number (Plain order) (now (out .entry)) r (now (out .exit)) ⌝ }
 {
     match order {
-        Order::Make(call) => undated(y, call, number, out),
+        Order::Make(call, _) => undated(y, call, number, out),
         Order::Unreadable => {
             let wrote = machine::refusal(out, number, 10);
             Stepped { year: y, wrote }
@@ -265,7 +266,7 @@ fn later_line(y: Year, line: Line, out: &mut [u8]) -> Stepped
     let sheet = y.sheet;
     let slip = year_lines::slip_of(line, sheet.marks);
     match slip {
-        Slip::Dated(date, call) => on_day(y, date, call, line.number, out),
+        Slip::Dated(date, call, _) => on_day(y, date, call, line.number, out),
         Slip::Plain(order) => plain(y, order, line.number, out),
     }
 }

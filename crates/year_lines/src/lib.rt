@@ -10,6 +10,7 @@ use lines;
 use lines::Order;
 use machine::Line;
 use sheet::Call;
+use times::Form;
 
 // What line 1 says.
 pub enum Named {
@@ -17,9 +18,9 @@ pub enum Named {
     NoYear,
 }
 
-// What a line behind line 2 asks for: a call on a day, or what it asks for as a line of the desk.
+// What a line behind line 2 asks for: a call on a day, with the form of its running time, or what it asks for as a line of the desk.
 pub enum Slip {
-    Dated(Date, Call),
+    Dated(Date, Call, Form),
     Plain(Order),
 }
 
@@ -53,10 +54,10 @@ pub fn read(line: &[u8], m: usize) -> Slip
         return Slip::Plain(lines::read(line, m));
     };
     let order = lines::read(&line[11..], m);
-    let Order::Make(call) = order else {
+    let Order::Make(call, form) = order else {
         return Slip::Plain(lines::read(line, m));
     };
-    Slip::Dated(date, call)
+    Slip::Dated(date, call, form)
 }
 
 // What the line at hand says as line 1; one that is too long or cut off names no year.
