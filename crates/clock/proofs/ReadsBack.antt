@@ -5,12 +5,14 @@ use mathlib.Core.List.{List, [], _∷_, _++_}
 use native.Mathlib.Omega.{arith}
 use lib.Dec.{ltb}
 use lib.ListN.{length, getD, take, drop}
+use lib.Seq.{append-snoc}
 use borrow.Author.Tests.{ltb-true, ltb-false}
+use Rattle.times.specs.declared.Form.the-variants.{Minutes}
 use Rattle.times.specs.declared.Time.{Time}
 use Rattle.times.specs.declared.Time.the-variants.{Value}
 use Rattle.times.specs.Texts.{Digit, Digits, Numeral, minutes, Readable}
 use Rattle.times.specs.Places.{ReadsAs, value}
-use Rattle.times.proofs.Fronts.{numeral-digit, numeral-more, readable}
+use Rattle.times.proofs.Fronts.{numeral-digit, numeral-more}
 use Rattle.times.proofs.Settled.{read-settled}
 use Rattle.print.specs.Texts.{decimal, clock}
 use Rattle.ground.specs.Areas.{Wrote}
@@ -51,22 +53,23 @@ decimal-digit n i h = digits-at (decimal n) i (decimal-numeral n .digits) h
 pub decimal-plain : (n : ℕ) (rest : List ℕ) → decimal n ≡ 48 ∷ rest → rest ≡ []
 decimal-plain n rest e = decimal-numeral n .plain rest e
 
-pub clock-readable : (n : ℕ) → n ≤ 35999 → Readable (clock n) n
+pub clock-readable : (n : ℕ) → n ≤ 35999 → Readable (clock n) n Minutes
 unfolding clock
 clock-readable n h =
-    readable (decimal (n / 60)) (n / 60) ((48 + n % 60 / 10) ∷ (48 + n % 60 % 10) ∷ []) n (decimal-numeral (n / 60)) (omega arith)
-    (record {
-      tens = n % 60 / 10;
-      ones = n % 60 % 10;
-      tens-small = omega arith;
-      ones-small = omega arith;
-      rest = [];
-      text = refl;
-      after = minutes (omega arith);
+    minutes (record {
+      first = decimal (n / 60);
+      m = n / 60;
+      minutes = decimal-numeral (n / 60);
+      most = omega arith;
+      last = (48 + n % 60 / 10) ∷ (48 + n % 60 % 10) ∷ [];
+      s = n % 60;
+      seconds = record { small = omega arith; text = refl };
+      text = sym (append-snoc (decimal (n / 60)) 58 ((48 + n % 60 / 10) ∷ (48 + n % 60 % 10) ∷ []));
+      total = omega arith;
     })
 
--- of the text that stands in an area after a call of `put_time`, a call of `read` can give nothing but the number
+-- of the text that stands in an area after a call of `put_time`, a call of `read` can give nothing but the number, in the form of minutes
 pub reads-back : {out later : List ℕ} {at next : ℕ} {time : Time} (n : ℕ) → n ≤ 35999 → at ≤ length out → Wrote out at (clock n) next later
-    → ReadsAs Readable (take (next - at) (drop at later)) time → time ≡ Value n
+    → ReadsAs Readable (take (next - at) (drop at later)) time → time ≡ Value n Minutes
 reads-back {time = time} n h l w r =
     read-settled (subst (λ (x : List ℕ). ReadsAs Readable x time) (wrote-there w l) r) (value (clock-readable n h))

@@ -1,11 +1,12 @@
 -- Call by call: an answer of 0 has nothing to show, and any other is one of the refusals of its contract.
-use Prim.Native.Nat.{ℕ, _^_, _≤_}
+use Prim.Native.Nat.{ℕ, zero, suc, _^_, _≤_}
 use mathlib.Core.Path.{_≡_, refl, sym, _∙_, ap, subst}
 use mathlib.Core.Bool.{Bool, true, false, not, cond}
-use mathlib.Core.List.{List}
+use mathlib.Core.List.{List, [], _∷_}
 use mathlib.Core.Logic.{_⊎_, ⊎-elim}
 use native.Mathlib.Omega.{arith}
 use lib.Dec.{eqb, leb, ltb}
+use lib.ListN.{getD}
 use borrow.Author.Tests.{ne-eqb}
 use Rattle.ground.proofs.Cases.{if}
 use Rattle.tables.specs.Tables.{own, touched}
@@ -31,18 +32,27 @@ use Rattle.times.specs.declared.Reading.{Reading}
 use Rattle.times.specs.declared.Time.the-variants.{Value as Read-value, Fault}
 use Rattle.vault.specs.Entries.{replied, HoldsNoneBy, Put, ChangesBy, Tells, Lends, Compared, KeptAt, same}
 use Rattle.vault.specs.declared.Reply.{Reply}
-use Rattle.demands.specs.Calls.{Lent, nothing, sheet, bytes, ofValue, ofRead, ofReading, Made}
+use Rattle.demands.specs.Calls.{Told, Lent, nothing, sheet, bytes, ofNumber, ofValue, ofRead, ofReading, ofReply, Made}
 use Rattle.demands.specs.Demand1.{Refuses, Demand1}
 
+-- a value of 0, or two, or none
+nought : (i : ℕ) → _≡_ {A = ℕ} (getD (0 ∷ []) i 0) 0
+nought zero = refl
+nought (suc i) = refl
+
+noughts : (i : ℕ) → _≡_ {A = ℕ} (getD (0 ∷ 0 ∷ []) i 0) 0
+noughts zero = refl
+noughts (suc i) = nought i
+
 -- the ways an answer can be: done; refused by a number below 10 without a place; refused by 10
-done : {p v : ℕ} {a b : Lent} → p ≡ 0 → Refuses (record { answer = 0; place = p; value = v }) b a
+done : {p : ℕ} {v : List ℕ} {a b : Lent} → p ≡ 0 → Refuses (record { answer = 0; place = p; values = v }) b a
 done e = record { of-table = omega arith; leaves = λ n. absurd (n refl); no-value = λ n. absurd (n refl); no-place = λ n. e }
 
-left : {n : ℕ} {l : Lent} → n ≤ 10 → Refuses (replied n 0) l l
-left h = record { of-table = h; leaves = λ n. refl; no-value = λ n. refl; no-place = λ n. refl }
+left : {n : ℕ} {v : List ℕ} {l : Lent} → n ≤ 10 → ((i : ℕ) → getD v i 0 ≡ 0) → Refuses (record { answer = n; place = 0; values = v }) l l
+left h z = record { of-table = h; leaves = λ n. refl; no-value = λ n. z; no-place = λ n. refl }
 
-placed : {p : ℕ} {l : Lent} → Refuses (record { answer = 10; place = p; value = 0 }) l l
-placed = record { of-table = omega arith; leaves = λ n. refl; no-value = λ n. refl; no-place = λ n. absurd (n refl) }
+placed : {p : ℕ} {v : List ℕ} {l : Lent} → ((i : ℕ) → getD v i 0 ≡ 0) → Refuses (record { answer = 10; place = p; values = v }) l l
+placed z = record { of-table = omega arith; leaves = λ n. refl; no-value = λ n. z; no-place = λ n. absurd (n refl) }
 
 -- opening and changing
 
@@ -76,8 +86,8 @@ number-le s (Withdraw c d) = amount-le mostMarks false (s .marks) (s .held) c d
 did-left : (s : Sheet) (k : Call) → (didOf mostMarks s k .number ≡ 0 → ⊥) → didOf mostMarks s k .sheet ≡ s
 did-left s k n = ap (λ (t : Bool). cond t (movedSheet (moveOf k) s) s) (ne-eqb (numberOn mostMarks s k) 0 n)
 
-did-refuses : (s : Sheet) (k : Call) → Refuses (replied (didOf mostMarks s k .number) 0) (sheet s) (sheet (didOf mostMarks s k .sheet))
-did-refuses s k = record { of-table = number-le s k; leaves = λ n. ap sheet (did-left s k n); no-value = λ n. refl; no-place = λ n. refl }
+did-refuses : (s : Sheet) (k : Call) → Refuses (ofNumber (didOf mostMarks s k .number)) (sheet s) (sheet (didOf mostMarks s k .sheet))
+did-refuses s k = record { of-table = number-le s k; leaves = λ n. ap sheet (did-left s k n); no-value = λ n i. refl; no-place = λ n. refl }
 
 open-as : (P : Answer → Type 0) (m : ℕ) → P (record { number = 0; sheet = sheetOf entries (opened m) }) → P (record { number = 1; sheet = sheetOf entries (opened 1) })
     → P (openOf mostMarks entries m)
@@ -86,27 +96,27 @@ open-as P m d r = if (marksOk mostMarks m) (λ e. subst P (open-done mostMarks e
 -- reading off a sheet, writing it
 
 size-refuses : {s : Sheet} {v : Value} {l : Lent} → ClassSize mostMarks s v → Refuses (ofValue v) l l
-size-refuses (ClassSize.spoiled n) = left (omega arith)
+size-refuses (ClassSize.spoiled n) = left (omega arith) nought
 size-refuses (ClassSize.told w) = done refl
 
 total-refuses : {s : Sheet} {v : Value} {l : Lent} → Totalled mostMarks s v → Refuses (ofValue v) l l
-total-refuses (Totalled.spoiled n) = left (omega arith)
+total-refuses (Totalled.spoiled n) = left (omega arith) nought
 total-refuses (Totalled.told w) = done refl
 
 list-refuses : {s : Sheet} {area later : List ℕ} {v : Value} → Listed mostMarks s area v later → Refuses (ofValue v) (bytes area) (bytes later)
-list-refuses (Listed.spoiled n) = left (omega arith)
-list-refuses (Listed.short w l) = left (omega arith)
-list-refuses (Listed.searched w l (Searched.none n)) = left (omega arith)
+list-refuses (Listed.spoiled n) = left (omega arith) nought
+list-refuses (Listed.short w l) = left (omega arith) nought
+list-refuses (Listed.searched w l (Searched.none n)) = left (omega arith) nought
 list-refuses (Listed.searched w l (Searched.given f)) = done refl
 
 write-refuses : {s : Sheet} {out later : List ℕ} {v : Value} → Writes mostMarks s out v later → Refuses (ofValue v) (bytes out) (bytes later)
-write-refuses (Writes.spoiled n) = left (omega arith)
-write-refuses (Writes.short w l) = left (omega arith)
+write-refuses (Writes.spoiled n) = left (omega arith) nought
+write-refuses (Writes.short w l) = left (omega arith) nought
 write-refuses (Writes.written w l) = done refl
 
 write-pla-refuses : {s : Sheet} {out later : List ℕ} {v : Value} → WritesPla mostMarks s out v later → Refuses (ofValue v) (bytes out) (bytes later)
-write-pla-refuses (WritesPla.spoiled n) = left (omega arith)
-write-pla-refuses (WritesPla.short w f l) = left (omega arith)
+write-pla-refuses (WritesPla.spoiled n) = left (omega arith) nought
+write-pla-refuses (WritesPla.short w f l) = left (omega arith) nought
 write-pla-refuses (WritesPla.written w f l) = done refl
 
 -- reading
@@ -120,8 +130,8 @@ read-by-refuses {R} {l = l} fair x = subst (λ (y : Read). Refuses (ofRead y) l 
     by (good r) y = done refl
     by (refused k p) y =
         ⊎-elim
-        (λ (w : (k ≡ 1) × (p ≡ 0)). subst (λ (q : ℕ). Refuses (record { answer = k; place = q; value = 0 }) l l) (sym (w .1)) (left (omega (arith, w .0))))
-        (λ (w : k ≡ 10). subst (λ (x : ℕ). Refuses (record { answer = x; place = p; value = 0 }) l l) (sym w) placed)
+        (λ (w : (k ≡ 1) × (p ≡ 0)). subst (λ (q : ℕ). Refuses (record { answer = k; place = q; values = [] }) l l) (sym (w .1)) (left (omega (arith, w .0)) (λ i. refl)))
+        (λ (w : k ≡ 10). subst (λ (x : ℕ). Refuses (record { answer = x; place = p; values = [] }) l l) (sym w) (placed (λ i. refl)))
         (fair k p y)
 
 read-refuses : {t : List ℕ} {l : Lent} (a : Read) → Reads mostMarks entries t a → Refuses (ofRead a) l l
@@ -131,41 +141,45 @@ read-pla-refuses : {t : List ℕ} {l : Lent} (a : Read) → ReadsPla mostMarks e
 read-pla-refuses a x = read-by-refuses (λ k p. pla-refusals) x
 
 time-refuses : (x : Time) {l : Lent} → Refuses (ofReading (readingOf x)) l l
-time-refuses (Read-value v) = done refl
-time-refuses (Fault p) = placed
+time-refuses (Read-value v f) = done refl
+time-refuses (Fault p) = placed noughts
 
 answer-refuses : {t : List ℕ} {r : Reading} {l : Lent} → Answered t r → Refuses (ofReading r) l l
 answer-refuses {l = l} a = subst (λ (x : Reading). Refuses (ofReading x) l l) (sym (a .is)) (time-refuses (a .time))
 
 -- the entries for C
 
-unread-refuses : {R : Read → Type 0} {l : Lent} → ((a : Read) → R a → Refuses (ofRead a) l l) → {r : Reply} → HoldsNoneBy R r → Refuses r l l
-unread-refuses {l = l} refuses h = subst (λ (x : Reply). Refuses x l l) (sym (h .reply)) (refuses (h .read) (h .reads))
+-- a reading's refusal as a reply
+no-sheet : {n p : ℕ} {l : Lent} → Refuses (record { answer = n; place = p; values = [] }) l l → Refuses (record { answer = n; place = p; values = 0 ∷ [] }) l l
+no-sheet x = record { of-table = x .of-table; leaves = x .leaves; no-value = λ n. nought; no-place = x .no-place }
 
-put-refuses : (a : Answer) {out later : List ℕ} {r : Reply} → a .number ≤ 10 → Put a out r later → Refuses r (bytes out) (bytes later)
-put-refuses a h (Put.refused n) = left h
+unread-refuses : {R : Read → Type 0} {l : Lent} → ((a : Read) → R a → Refuses (ofRead a) l l) → {r : Reply} → HoldsNoneBy R r → Refuses (ofReply r) l l
+unread-refuses {l = l} refuses h = subst (λ (x : Reply). Refuses (ofReply x) l l) (sym (h .reply)) (no-sheet (refuses (h .read) (h .reads)))
+
+put-refuses : (a : Answer) {out later : List ℕ} {r : Reply} → a .number ≤ 10 → Put a out r later → Refuses (ofReply r) (bytes out) (bytes later)
+put-refuses a h (Put.refused n) = left h nought
 put-refuses a h (Put.written z w) = write-refuses w
 
 change-refuses : {R : Read → Type 0} (call : Sheet → Answer) → ((s : Sheet) → call s .number ≤ 10) → {out later : List ℕ} {r : Reply}
-    → ((a : Read) → R a → Refuses (ofRead a) (bytes out) (bytes out)) → ChangesBy R call out r later → Refuses r (bytes out) (bytes later)
+    → ((a : Read) → R a → Refuses (ofRead a) (bytes out) (bytes out)) → ChangesBy R call out r later → Refuses (ofReply r) (bytes out) (bytes later)
 change-refuses call h refuses (ChangesBy.unread u) = unread-refuses refuses u
 change-refuses call h refuses (ChangesBy.called {s = s} k p) = put-refuses (call s) (h s) p
 
 tell-refuses : (call : Sheet → Value → Type 0) → ((s : Sheet) (v : Value) → call s v → Refuses (ofValue v) nothing nothing) → {t : List ℕ} {r : Reply}
-    → Tells call t r → Refuses r nothing nothing
+    → Tells call t r → Refuses (ofReply r) nothing nothing
 tell-refuses call h (Tells.unread u) = unread-refuses read-refuses u
 tell-refuses call h (Tells.told k w) = h _ _ w
 
 lend-refuses : (call : Sheet → List ℕ → Value → List ℕ → Type 0) {t area later : List ℕ} {r : Reply}
     → ((s : Sheet) (v : Value) → call s area v later → Refuses (ofValue v) (bytes area) (bytes later)) → Lends call t area r later
-    → Refuses r (bytes area) (bytes later)
+    → Refuses (ofReply r) (bytes area) (bytes later)
 lend-refuses call h (Lends.unread u) = unread-refuses read-refuses u
 lend-refuses call h (Lends.lent k w) = h _ _ w
 
 kept-refuses : (k : Table) (b : ℕ) (s : Sheet) (v : Value) → KeptAt k b s v → Refuses (ofValue v) nothing nothing
 kept-refuses k b s v e = subst (λ (x : Value). Refuses (ofValue x) nothing nothing) (sym e) (done refl)
 
-compared-refuses : {first second : List ℕ} {r : Reply} → Compared first second r → Refuses r nothing nothing
+compared-refuses : {first second : List ℕ} {r : Reply} → Compared first second r → Refuses (ofReply r) nothing nothing
 compared-refuses (Compared.keeps n) = done refl
 compared-refuses (Compared.changes b) = done refl
 
@@ -177,8 +191,8 @@ of-refusal : {R : Outcome → Type 0} {a : Read} → ReadBy R entries a → (a .
 of-refusal x n = ap (λ (y : Read). y .sheet) (x .is) ∙ one-mark (x .outcome) (λ e. n (ap (λ (y : Read). y .number) (x .is) ∙ e))
 
 -- EVERY CALL
-every : {r : Reply} {before after : Lent} → Made r before after → Refuses r before after
-every (Made.opens m) = open-as (λ (a : Answer). Refuses (replied (a .number) 0) nothing nothing) m (left (omega arith)) (left (omega arith))
+every : {r : Told} {before after : Lent} → Made r before after → Refuses r before after
+every (Made.opens m) = open-as (λ (a : Answer). Refuses (ofNumber (a .number)) nothing nothing) m (done refl) (left (omega arith) (λ i. refl))
 every (Made.did s k) = did-refuses s k
 every (Made.class-size w) = size-refuses w
 every (Made.list w) = list-refuses w

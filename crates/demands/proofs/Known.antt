@@ -11,15 +11,18 @@ use Rattle.lists.specs.Lists.{among, firstFrom}
 use Rattle.lists.proofs.Known.{below, alike, gives, firstIs, known-list}
 use Rattle.lists.proofs.Model.{laying, trying, seeking, fewest}
 use Rattle.times.specs.declared.Time.the-variants.{Value, Fault}
-use Rattle.times.specs.Texts.{minutes, Numeral}
 use Rattle.demands.specs.Known.{Example, sheet, time, Holds, table, Shown}
+use Rattle.times.specs.Texts.{Numeral, minutes}
 use Rattle.times.specs.Places.{value}
-use Rattle.times.proofs.Behinds.{behind-one}
-use Rattle.times.proofs.Fronts.{SoFar, far-none, far-step, stop-at, colon-at, led-stop, led-on, numeral-digit, numeral-more, readable, noughts}
+use Rattle.times.specs.Parts.{After, no-ones}
+use Rattle.times.proofs.Behinds.{unpaired, after-some}
+use Rattle.times.proofs.Fronts.{SoFar, far-none, far-step, stop-at, colon-at, led-stop, led-on, numeral-digit, numeral-more}
+use Rattle.times.proofs.Words.{as-read}
+use Rattle.times.specs.declared.Form.the-variants.{Minutes}
 
 -- the digits of two bytes at the front of a text
-two : (a b : ℕ) (z : List ℕ) → (49 ≤ a) × (a ≤ 57) → (48 ≤ b) × (b ≤ 57) → SoFar (a ∷ b ∷ []) ((0 * 10 + (a - 48)) * 10 + (b - 48))
-two a b z h k =
+two-so-far : (a b : ℕ) (z : List ℕ) → (49 ≤ a) × (a ≤ 57) → (48 ≤ b) × (b ≤ 57) → SoFar (a ∷ b ∷ []) ((0 * 10 + (a - 48)) * 10 + (b - 48))
+two-so-far a b z h k =
     let t : List ℕ = a ∷ b ∷ z in
     far-step t 1 (0 * 10 + (a - 48))
     (far-step t 0 0 far-none (omega arith) (record { digit = (omega arith, omega arith); plain = λ w. omega arith; small = omega arith })) (omega arith)
@@ -31,21 +34,41 @@ nines =
     (numeral-more (ascii "5") 5 57 (numeral-digit 53 (omega arith, omega arith)) (omega arith, omega arith) (omega arith))
     (omega arith, omega arith) (omega arith)
 
-nought : Holds (time (ascii "0:00") (Value 0))
-nought = value (readable (ascii "0") 0 (ascii "00") 0 (numeral-digit 48 (omega arith, omega arith)) (omega arith) (noughts 0))
+nought : Holds (time (ascii "0:00") (Value 0 Minutes))
+nought = value (minutes (record {
+  first = ascii "0";
+  m = 0;
+  minutes = numeral-digit 48 (omega arith, omega arith);
+  most = omega arith;
+  last = ascii "00";
+  s = 0;
+  seconds = record { small = omega arith; text = refl };
+  text = refl;
+  total = refl;
+}))
 
-longest : Holds (time (ascii "599:59") (Value 35999))
-longest = value (readable (ascii "599") 599 (ascii "59") 35999 nines (omega arith)
-    (record { tens = 5; ones = 9; tens-small = omega arith; ones-small = omega arith; rest = []; text = refl; after = minutes refl }))
+longest : Holds (time (ascii "599:59") (Value 35999 Minutes))
+longest = value (minutes (record {
+  first = ascii "599";
+  m = 599;
+  minutes = nines;
+  most = omega arith;
+  last = ascii "59";
+  s = 59;
+  seconds = record { small = omega arith; text = refl };
+  text = refl;
+  total = refl;
+}))
 
 too-long : Holds (time (ascii "600:00") (Fault 2))
 too-long =
-    led-stop (stop-at _ 2 60 (two 54 48 (ascii "0:00") (omega arith, omega arith) (omega arith, omega arith)) (omega arith) (λ e h. omega arith) (λ f. omega (arith, f .small)))
+    as-read (led-stop (stop-at _ 2 60 (two-so-far 54 48 (ascii "0:00") (omega arith, omega arith) (omega arith, omega arith)) (omega arith) (λ e h. omega arith)
+    (λ f. omega (arith, f .small))))
 
 ends-early : Holds (time (ascii "12:3") (Fault 4))
 ends-early =
-    led-on _ 12 3 (colon-at _ 2 12 (two 49 50 (ascii ":3") (omega arith, omega arith) (omega arith, omega arith)) (omega arith) refl (omega arith))
-    (behind-one 12 (ascii "3") refl (omega arith, omega arith))
+    as-read (led-on _ 12 3 (colon-at _ 2 12 (two-so-far 49 50 (ascii ":3") (omega arith, omega arith) (omega arith, omega arith)) (omega arith) refl (omega arith))
+    (unpaired (After 12) (λ x h. after-some 12 x) (ascii "3") (no-ones (omega arith) (omega arith, omega arith) (λ h d. omega arith))))
 
 -- the lists of a table are computed at once; what is left are its times
 

@@ -37,7 +37,7 @@ use Rattle.pla.proofs.Settled.{reads-pla-some, reads-pla-settled}
 use Rattle.pla.proofs.Back.{pla-back}
 use Rattle.vault.specs.Entries.{Put, ChangesBy, Lends, same}
 use Rattle.vault.specs.declared.Reply.{Reply}
-use Rattle.demands.specs.Calls.{bytes, Made}
+use Rattle.demands.specs.Calls.{bytes, ofReply, Made}
 use Rattle.demands.specs.Demand1.{Refuses}
 use Rattle.demands.specs.Demand2.{Lines}
 use Rattle.demands.specs.Pla.{DrawnFrom, GivesBack, WrittenAs, DrawnIn, WrittenIn, Pla}
@@ -99,7 +99,7 @@ module _ {t : List ℕ} where
   entry-read (ChangesBy.unread u) z = absurd (u .bad (sym (ap (λ (x : Reply). x .answer) (u .reply)) ∙ z))
   entry-read (ChangesBy.called h p) z = put-drawn (subst (DrawnFrom t) (h .sheet) (read (h .reads) (h .good))) p z
 
-left : {out later : List ℕ} {r : Reply} → Refuses r (bytes out) (bytes later) → (r .answer ≡ 0 → ⊥) → later ≡ out
+left : {out later : List ℕ} {r : Reply} → Refuses (ofReply r) (bytes out) (bytes later) → (r .answer ≡ 0 → ⊥) → later ≡ out
 left x n = let e = x .leaves n in cc
 
 -- what is read back: the record of the sheet's marks and class, with no times

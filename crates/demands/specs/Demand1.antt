@@ -3,24 +3,24 @@
 use Prim.Native.Nat.{ℕ, _≤_}
 use mathlib.Core.Path.{_≡_}
 use mathlib.Core.List.{List}
+use lib.ListN.{getD}
 use Rattle.sheet.specs.Limits.{mostMarks, entries}
 use Rattle.sheet.specs.Record.{sheetOf, opened}
 use Rattle.sheet.specs.Calls.{openOf}
 use Rattle.stored.specs.Answers.{Reads}
 use Rattle.stored.specs.declared.Read.{Read}
 use Rattle.pla.specs.Answers.{ReadsPla}
-use Rattle.vault.specs.declared.Reply.{Reply}
-use Rattle.demands.specs.Calls.{Lent, Made}
+use Rattle.demands.specs.Calls.{Told, Lent, Made}
 
--- what every call answers: a number of the table, 0 to 10; refused, value 0 and all that was lent as it was; the place is 0 for every number but 10
-pub record Refuses (r : Reply) (before after : Lent) : Type 0 where
+-- what every call answers: a number of the table, 0 to 10; refused, 0 for each value and all that was lent as it was; the place is 0 for every number but 10
+pub record Refuses (r : Told) (before after : Lent) : Type 0 where
   pub of-table : r .answer ≤ 10
   pub leaves : (r .answer ≡ 0 → ⊥) → after ≡ before
-  pub no-value : (r .answer ≡ 0 → ⊥) → r .value ≡ 0
+  pub no-value : (r .answer ≡ 0 → ⊥) → (i : ℕ) → getD (r .values) i 0 ≡ 0
   pub no-place : (r .answer ≡ 10 → ⊥) → r .place ≡ 0
 
 pub record Demand1 : Type 0 where
-  pub every-call : {r : Reply} {before after : Lent} → Made r before after → Refuses r before after
+  pub every-call : {r : Told} {before after : Lent} → Made r before after → Refuses r before after
   -- a refused opening, or a refused read, gives the sheet of an opened one-mark class
   pub opening : (m : ℕ) → (openOf mostMarks entries m .number ≡ 0 → ⊥) → openOf mostMarks entries m .sheet ≡ sheetOf entries (opened 1)
   pub reading : {t : List ℕ} {a : Read} → Reads mostMarks entries t a → (a .number ≡ 0 → ⊥) → a .sheet ≡ sheetOf entries (opened 1)

@@ -3,6 +3,7 @@ use Prim.Native.Nat.{ℕ}
 use mathlib.Core.List.{List, [], _∷_}
 use Rattle.ground.specs.Texts.{ascii}
 use Rattle.lists.specs.Lists.{among, FirstShortest}
+use Rattle.times.specs.declared.Form.the-variants.{Minutes}
 use Rattle.times.specs.declared.Time.{Time}
 use Rattle.times.specs.declared.Time.the-variants.{Value, Fault}
 use Rattle.times.specs.Texts.{Readable}
@@ -23,8 +24,8 @@ table =
     ∷ sheet 2 (1 ∷ 2 ∷ 3 ∷ []) (1 ∷ 5 ∷ [])
     ∷ sheet 2 (0 ∷ 1 ∷ 2 ∷ 3 ∷ []) (8 ∷ [])
     ∷ sheet 3 (1 ∷ 2 ∷ 4 ∷ 7 ∷ []) (1 ∷ 3 ∷ 9 ∷ 13 ∷ [])
-    ∷ time (ascii "0:00") (Value 0)
-    ∷ time (ascii "599:59") (Value 35999)
+    ∷ time (ascii "0:00") (Value 0 Minutes)
+    ∷ time (ascii "599:59") (Value 35999 Minutes)
     ∷ time (ascii "600:00") (Fault 2)
     ∷ time (ascii "12:3") (Fault 4)
     ∷ []

@@ -15,6 +15,7 @@ use Rattle.histories.specs.Histories.{numberOf}
 use Rattle.machine.specs.Rows.{Row}
 use Rattle.machine.specs.Heard.{Hears, nothing, page, refused}
 use Rattle.machine.proofs.Heard.{spoken-heard}
+use Rattle.times.specs.declared.Form.{Form}
 use Rattle.lines.specs.declared.Order.the-variants.{Make}
 use Rattle.lines.specs.declared.First.{First}
 use Rattle.lines.specs.declared.First.the-variants.{Marks, NotMarks}
@@ -23,7 +24,7 @@ use Rattle.desk.specs.Heard.{IsResult, inLine1, inLaterLine}
 use Rattle.desk.specs.Prints.{firstNumber, State, first, going, Step, opens, shut, made, unread, ended}
 
 -- the number of a call that a line says
-pub call-seen : (r : Record) {line : List ℕ} {c : Call} → Says (r .marks) line (Make c) → (eqb (numberOf r c) 0 || inLaterLine (numberOf r c)) ≡ true
+pub call-seen : (r : Record) {line : List ℕ} {c : Call} {f : Form} → Says (r .marks) line (Make c f) → (eqb (numberOf r c) 0 || inLaterLine (numberOf r c)) ≡ true
 call-seen r (enters {c} n) = rw (lt-leb (2 ^ r .marks) c (n .small)) (if (r .class c) (λ e. rw e) (λ e. rw e))
 call-seen r (leaves {c} n) = rw (lt-leb (2 ^ r .marks) c (n .small)) (if (r .class c) (λ e. rw e) (λ e. rw e))
 call-seen r (receives {c} {d} n) =

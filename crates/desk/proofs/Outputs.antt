@@ -16,6 +16,7 @@ use Rattle.machine.specs.Machine.{refusal, spoken}
 use Rattle.machine.specs.Answers.{OneAnswer, SomeAnswer}
 use Rattle.machine.proofs.Outputs.{can-step, one-output}
 use Rattle.lines.specs.declared.Order.{Order}
+use Rattle.times.specs.declared.Form.{Form}
 use Rattle.lines.specs.declared.Order.the-variants.{Make, End, Unreadable}
 use Rattle.lines.specs.declared.First.{First}
 use Rattle.lines.specs.declared.First.the-variants.{Marks, NotMarks}
@@ -31,7 +32,7 @@ result-one : {r : Record} {a b : List ℕ} → Result r a → Result r b → a �
 result-one {r} x y = x .is ∙ ap (page r) (unique (x .first) (y .first)) ∙ sym (y .is)
 
 kind : Order → ℕ
-kind (Make c) = 0
+kind (Make c f) = 0
 kind Unreadable = 1
 kind End = 2
 
@@ -40,11 +41,11 @@ unlike : {P : Type 0} {m : ℕ} {row : Row} {o p : Order} → RowAsks m row o �
 unlike w v n = absurd (n (ap kind (row-asks-settled w v)))
 
 called : Order → Call → Call
-called (Make c) k = c
+called (Make c f) k = c
 called Unreadable k = k
 called End k = k
 
-same-call : {m : ℕ} {row : Row} {c k : Call} → RowAsks m row (Make c) → RowAsks m row (Make k) → c ≡ k
+same-call : {m : ℕ} {row : Row} {c k : Call} {f g : Form} → RowAsks m row (Make c f) → RowAsks m row (Make k g) → c ≡ k
 unfolding called
 same-call {c = c} w v = ap (λ (o : Order). called o c) (row-asks-settled w v)
 
@@ -103,7 +104,7 @@ step-some k first row good =
 step-some k (going r) row good = go (row-asks-decided (r .marks) row)
   where
     go : (o : Order) × RowAsks (r .marks) row o → (t : State) × (now : List ℕ) × Step k (going r) row t now × Good (recordIn t)
-    go (Make c, w) = (going (after r c), spoken k (numberOf r c), made w, good-after r good c)
+    go (Make c f, w) = (going (after r c), spoken k (numberOf r c), made w, good-after r good c)
     go (Unreadable, w) = (going r, refusal k 10, unread w, good)
     go (End, w) = let t = result r good in (over r, t .0, ended w (t .1), good)
 step-some k (over r) row good = (over r, [], Step.silent, good)

@@ -18,6 +18,7 @@ use Rattle.sheet.specs.Limits.{marksOk, amountOk}
 use Rattle.sheet.specs.declared.Call.the-variants.{Enter, Receive, Withdraw}
 use Rattle.machine.specs.Rows.{whole, rowsFrom, judged}
 use Rattle.machine.specs.Machine.{Onward}
+use Rattle.times.specs.declared.Form.the-variants.{NoTime, Minutes}
 use Rattle.lines.specs.declared.Order.the-variants.{Make}
 use Rattle.lines.specs.declared.First.the-variants.{Marks}
 use Rattle.lines.specs.Words.{written, enters, receives, withdraws, ends, said, marks, RowAsks, RowOpens}
@@ -40,29 +41,29 @@ list =
     subst (λ (p : ℕ → Bool). FirstShortest 2 p p (1 ∷ 5 ∷ [])) (fun-ext {f = among (1 ∷ 2 ∷ 3 ∷ [])} (λ x. entered (eqb x 1) (eqb x 2) (eqb x 3)))
     (known-list 2 (1 ∷ 2 ∷ 3 ∷ []) (1 ∷ 5 ∷ []) refl)
 
-time-605 : Readable (ascii "10:05") 605
+time-605 : Readable (ascii "10:05") 605 Minutes
 unfolding clock decimal decimalIn
 time-605 = clock-readable 605 (omega arith)
 
-time-150 : Readable (ascii "2:30") 150
+time-150 : Readable (ascii "2:30") 150 Minutes
 unfolding clock decimal decimalIn
 time-150 = clock-readable 150 (omega arith)
 
-time-5 : Readable (ascii "0:05") 5
+time-5 : Readable (ascii "0:05") 5 Minutes
 unfolding clock decimal decimalIn
 time-5 = clock-readable 5 (omega arith)
 
-time-240 : Readable (ascii "4:00") 240
+time-240 : Readable (ascii "4:00") 240 Minutes
 unfolding clock decimal decimalIn
 time-240 = clock-readable 240 (omega arith)
 
-enter : (c : ℕ) (line : List ℕ) → c < 4 → line ≡ ascii "in " ++ written 2 c → RowAsks 2 (whole line) (Make (Enter c))
+enter : (c : ℕ) (line : List ℕ) → c < 4 → line ≡ ascii "in " ++ written 2 c → RowAsks 2 (whole line) (Make (Enter c) NoTime)
 enter c line h e = RowAsks.read (said (enters (record { small = h; text = e })))
 
-receive : (c d : ℕ) (line time : List ℕ) → c < 4 → Readable time d → line ≡ ascii "recv " ++ written 2 c ++ ascii " " ++ time → RowAsks 2 (whole line) (Make (Receive c d))
+receive : (c d : ℕ) (line time : List ℕ) → c < 4 → Readable time d Minutes → line ≡ ascii "recv " ++ written 2 c ++ ascii " " ++ time → RowAsks 2 (whole line) (Make (Receive c d) Minutes)
 receive c d line time h t e = RowAsks.read (said (receives (record { small = h; time = time; readable = t; text = e })))
 
-withdraw : (c d : ℕ) (line time : List ℕ) → c < 4 → Readable time d → line ≡ ascii "gone " ++ written 2 c ++ ascii " " ++ time → RowAsks 2 (whole line) (Make (Withdraw c d))
+withdraw : (c d : ℕ) (line time : List ℕ) → c < 4 → Readable time d Minutes → line ≡ ascii "gone " ++ written 2 c ++ ascii " " ++ time → RowAsks 2 (whole line) (Make (Withdraw c d) Minutes)
 withdraw c d line time h t e = RowAsks.read (said (withdraws (record { small = h; time = time; readable = t; text = e })))
 
 pub sample : Prints sampleInput sampleOutput

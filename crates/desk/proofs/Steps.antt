@@ -20,6 +20,7 @@ use Rattle.machine.specs.Steps.{pageRoom, StoppedBy}
 use Rattle.machine.proofs.Outputs.{stepped-one, stopped-one}
 use Rattle.machine.proofs.Steps.{answered, refused}
 use Rattle.lines.specs.declared.Order.{Order}
+use Rattle.times.specs.declared.Form.{Form}
 use Rattle.lines.specs.declared.Order.the-variants.{Make, End, Unreadable}
 use Rattle.lines.specs.declared.First.{First}
 use Rattle.lines.specs.declared.First.the-variants.{Marks, NotMarks}
@@ -80,9 +81,9 @@ module _ {sheet : Sheet} {r : Record} (of : OfRecord sheet r) where
     asks e = subst (RowAsks (r .marks) row) e (subst (λ (s : Sheet). RowAsks (s .marks) row o) (of .is) asked)
 
     module _ {k w : ℕ} {out later : List ℕ} where
-      pub later-made : {c : Call} {a : Answer} → o ≡ Make c → a ≡ didOf mostMarks sheet c → Wrote out 0 (spoken k (a .number)) w later → w ≤ pageRoom
+      pub later-made : {c : Call} {f : Form} {a : Answer} → o ≡ Make c f → a ≡ didOf mostMarks sheet c → Wrote out 0 (spoken k (a .number)) w later → w ≤ pageRoom
           → SteppedTo k (going r) row out (ledTo Going (a .sheet) w) later
-      later-made {c} {a} q e p short =
+      later-made {c} {a = a} q e p short =
           let is : a ≡ record { number = numberOf r c; sheet = sheetOf entries (after r c) } =
           e ∙ ap (λ (s : Sheet). didOf mostMarks s c) (of .is) ∙ did-kept r (of .good) c in
           answered (going (after r c)) (numberOf r c) (made (asks q)) (ap (λ (x : Answer). record { stage = Going; sheet = x .sheet }) is)

@@ -18,6 +18,7 @@ use Rattle.listing.specs.Listing.{totalOf}
 use Rattle.histories.specs.Histories.{numberOf, after}
 use Rattle.machine.specs.Rows.{Row}
 use Rattle.machine.specs.Machine.{Machine, Output, refusal, spoken}
+use Rattle.times.specs.declared.Form.{Form}
 use Rattle.lines.specs.declared.Order.the-variants.{Make, End, Unreadable}
 use Rattle.lines.specs.declared.First.{First}
 use Rattle.lines.specs.declared.First.the-variants.{Marks, NotMarks}
@@ -75,7 +76,7 @@ pub data Step (k : ℕ) : State → Row → State → List ℕ → Type 0 where
   opens : {row : Row} {f : First} → RowOpens row f → firstNumber f ≡ 0 → Step k first row (going (firstRecord f)) []
   shut : {row : Row} {f : First} → RowOpens row f → (firstNumber f ≡ 0 → ⊥) → Step k first row (over (firstRecord f)) (refusal k (firstNumber f))
   -- a later line makes a call, cannot be read, or is `end`, and the result is printed
-  made : {r : Record} {row : Row} {c : Call} → RowAsks (r .marks) row (Make c) → Step k (going r) row (going (after r c)) (spoken k (numberOf r c))
+  made : {r : Record} {row : Row} {c : Call} {f : Form} → RowAsks (r .marks) row (Make c f) → Step k (going r) row (going (after r c)) (spoken k (numberOf r c))
   unread : {r : Record} {row : Row} → RowAsks (r .marks) row Unreadable → Step k (going r) row (going r) (refusal k 10)
   ended : {r : Record} {row : Row} {text : List ℕ} → RowAsks (r .marks) row End → Result r text → Step k (going r) row (over r) text
   -- nothing is printed when it is over

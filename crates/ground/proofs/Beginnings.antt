@@ -7,6 +7,7 @@ use native.Mathlib.Omega.{arith}
 use lib.ListN.{length, getD, take, drop, length-append, length-drop, take-append-drop, List·getD-append}
 use lib.Seq.{take-suc, take-all, drop-at}
 use Rattle.ground.specs.Texts.{Begins}
+use Rattle.ground.proofs.Cases.{same-or}
 
 -- the first i bytes of the text are those of the front
 pub record SameSoFar (text front : List ℕ) (i : ℕ) : Type 0 where
@@ -56,3 +57,12 @@ all-begun front text e (rest, is) = is ∙ ap (λ (l : List ℕ). front ++ l) (n
 
 pub begins-itself : (text : List ℕ) → Begins text text
 begins-itself text = ([], sym (append-nil text))
+
+-- a text begins so or does not
+pub begins-or : {P : Type 0} (front text : List ℕ) → (Begins front text → P) → ((Begins front text → ⊥) → P) → P
+begins-or [] text good bad = good (text, refl)
+begins-or (f ∷ front) [] good bad = bad (λ b. let z = ap length (b .1) in omega arith)
+begins-or (f ∷ front) (x ∷ text) good bad =
+    same-or x f
+    (λ e. begins-or front text (λ b. good (b .0, cc (b .1))) (λ n. bad (λ b. n (b .0, cc (b .1)))))
+    (λ n. bad (λ b. n (cc (b .1))))

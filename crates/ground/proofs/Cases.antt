@@ -32,6 +32,10 @@ below-or a b below above = if (ltb a b) (λ e. below (ltb-true a b e)) (λ e. ab
 pub same-or : {P : Type 0} (a b : ℕ) → (a ≡ b → P) → ((a ≡ b → ⊥) → P) → P
 same-or a b same other = if (eqb a b) (λ e. same (eqb-true a b e)) (λ e. other (eqb-false a b e))
 
+-- a number is in a range or is not
+pub range-or : {P : Type 0} (a z c : ℕ) → ((a ≤ c) × (c ≤ z) → P) → (((a ≤ c) × (c ≤ z) → ⊥) → P) → P
+range-or a z c good bad = below-or c a (λ l. bad (λ w. omega (arith, w .0))) (λ l. below-or z c (λ k. bad (λ w. omega (arith, w .1))) (λ k. good (l, k)))
+
 -- a mark is off or on
 pub mark : (P : ℕ → Type 0) (v : ℕ) → v < 2 → P 0 → P 1 → P v
 mark P zero l off on = off

@@ -8,6 +8,8 @@ use native.Mathlib.Omega.{arith}
 use lib.Dec.{eqb}
 use lib.ListN.{length, getD, take, drop, length-append, length-drop}
 use lib.Seq.{take-all, take-at, drop-at, getD-at, split-at, drop-append-seam, append-snoc}
+use Rattle.times.specs.declared.Form.{Form}
+use Rattle.times.specs.declared.Form.the-variants.{NoTime}
 use Rattle.times.specs.declared.Time.the-variants.{Value, Fault}
 use Rattle.ground.specs.Texts.{ascii, Begins}
 use Rattle.times.specs.Texts.{Readable}
@@ -27,26 +29,26 @@ use Rattle.lines.proofs.Patterns.{written-length}
 module _ (m : ℕ) (part : List ℕ) where
   pub amount-short : length part ≤ m → Amounts m part NoAmount
   amount-short h =
-      λ c d n.
+      λ c d f n.
       omega (arith, ap length (n .text), written-length m c, length-append (written m c ++ ascii " ") (n .time), length-append (written m c) (ascii " "))
 
-  space-at : {c d : ℕ} (n : NamesAmount m [] part c d) → getD part m 0 ≡ 32
+  space-at : {c d : ℕ} {f : Form} (n : NamesAmount m [] part c d f) → getD part m 0 ≡ 32
   space-at {c} n =
       ap (λ (l : List ℕ). getD l m 0) (n .text ∙ append-snoc (written m c) 32 (n .time)) ∙ getD-at (written m c) 32 (n .time) 0 m (written-length m c)
 
   pub amount-unspaced : (getD part m 0 ≡ 32 → ⊥) → Amounts m part NoAmount
-  amount-unspaced q = λ c d n. q (space-at n)
+  amount-unspaced q = λ c d f n. q (space-at n)
 
-  pub front-at : {c d : ℕ} (n : NamesAmount m [] part c d) → Names m [] (take m part) c
+  pub front-at : {c d : ℕ} {f : Form} (n : NamesAmount m [] part c d f) → Names m [] (take m part) c
   front-at {c} n = record {
     small = n .small;
     text = ap (take m) (n .text ∙ append-assoc (written m c) (ascii " ") (n .time)) ∙ take-at (written m c) (ascii " " ++ n .time) m (written-length m c);
   }
 
   pub amount-unnamed : Patterned m (take m part) NoPattern → Amounts m part NoAmount
-  amount-unnamed q = λ c d n. q c (front-at n)
+  amount-unnamed q = λ c d f n. q c (front-at n)
 
-  pub time-at : {c d : ℕ} (n : NamesAmount m [] part c d) → drop (m + 1) part ≡ n .time
+  pub time-at : {c d : ℕ} {f : Form} (n : NamesAmount m [] part c d f) → drop (m + 1) part ≡ n .time
   time-at {c} n = ap (drop (m + 1)) (n .text) ∙ drop-at (written m c ++ ascii " ") (n .time) (m + 1) (omega (arith, length-append (written m c) (ascii " "), written-length m c))
 
   -- the part behind the space, as it is lent
@@ -54,15 +56,15 @@ module _ (m : ℕ) (part : List ℕ) where
   time-lent = take-all (length part - (m + 1)) (drop (m + 1) part) (omega (arith, length-drop (m + 1) part))
 
   pub amount-untimed : {p : ℕ} → ReadsAs Readable (take (length part - (m + 1)) (drop (m + 1) part)) (Fault p) → Amounts m part NoAmount
-  amount-untimed (fault q x) = λ c d n. q d (subst (λ (t : List ℕ). Readable t d) (sym (time-lent ∙ time-at n)) (n .readable))
+  amount-untimed (fault q x) = λ c d f n. q d f (subst (λ (t : List ℕ). Readable t d f) (sym (time-lent ∙ time-at n)) (n .readable))
 
-  pub amount-read : {c d : ℕ} → m < length part → getD part m 0 ≡ 32 → Patterned m (take m part) (Combination c)
-      → ReadsAs Readable (take (length part - (m + 1)) (drop (m + 1) part)) (Value d) → Amounts m part (Seconds c d)
-  amount-read {c} {d} h s n (value r) =
+  pub amount-read : {c d : ℕ} {f : Form} → m < length part → getD part m 0 ≡ 32 → Patterned m (take m part) (Combination c)
+      → ReadsAs Readable (take (length part - (m + 1)) (drop (m + 1) part)) (Value d f) → Amounts m part (Seconds c d f)
+  amount-read {c} {d} {f} h s n (value r) =
       record {
         small = n .small;
         time = drop (m + 1) part;
-        readable = subst (λ (t : List ℕ). Readable t d) time-lent r;
+        readable = subst (λ (t : List ℕ). Readable t d f) time-lent r;
         text =
             split-at part m 0 h
             ∙ ap (λ (n : ℕ). take m part ++ getD part m 0 ∷ drop n part) (sym (add-one m))
@@ -103,10 +105,10 @@ one-verb v w a b e = sym (verb-of v a) ∙ ap (λ (l : List ℕ). verbOf (getD l
 
 -- what the part behind a verb says
 pub data Part (m : ℕ) : Verb → List ℕ → Order → Type 0 where
-  enters : {part : List ℕ} {c : ℕ} → Names m [] part c → Part m enter part (Make (Enter c))
-  leaves : {part : List ℕ} {c : ℕ} → Names m [] part c → Part m leave part (Make (Leave c))
-  receives : {part : List ℕ} {c d : ℕ} → NamesAmount m [] part c d → Part m receive part (Make (Receive c d))
-  withdraws : {part : List ℕ} {c d : ℕ} → NamesAmount m [] part c d → Part m withdraw part (Make (Withdraw c d))
+  enters : {part : List ℕ} {c : ℕ} → Names m [] part c → Part m enter part (Make (Enter c) NoTime)
+  leaves : {part : List ℕ} {c : ℕ} → Names m [] part c → Part m leave part (Make (Leave c) NoTime)
+  receives : {part : List ℕ} {c d : ℕ} {f : Form} → NamesAmount m [] part c d f → Part m receive part (Make (Receive c d) f)
+  withdraws : {part : List ℕ} {c d : ℕ} {f : Form} → NamesAmount m [] part c d f → Part m withdraw part (Make (Withdraw c d) f)
   ends : Part m end [] End
 
 -- a line taken apart, and put together
@@ -127,7 +129,7 @@ module _ {m : ℕ} {line : List ℕ} where
   behind-names : {verb : List ℕ} {c : ℕ} → Names m verb line c → Names m [] (written m c) c
   behind-names n = record { small = n .small; text = refl }
 
-  behind-amount : {verb : List ℕ} {c d : ℕ} (n : NamesAmount m verb line c d) → NamesAmount m [] (written m c ++ ascii " " ++ n .time) c d
+  behind-amount : {verb : List ℕ} {c d : ℕ} {f : Form} (n : NamesAmount m verb line c d f) → NamesAmount m [] (written m c ++ ascii " " ++ n .time) c d f
   behind-amount n = record { small = n .small; time = n .time; readable = n .readable; text = refl }
 
   pub apart : {o : Order} → Says m line o → VerbAndPart m line o
@@ -142,7 +144,7 @@ module _ {m : ℕ} {line : List ℕ} where
   with-names : (verb : List ℕ) {part : List ℕ} {c : ℕ} → line ≡ verb ++ part → Names m [] part c → Names m verb line c
   with-names verb e n = record { small = n .small; text = e ∙ ap (λ (l : List ℕ). verb ++ l) (n .text) }
 
-  with-amount : (verb : List ℕ) {part : List ℕ} {c d : ℕ} → line ≡ verb ++ part → NamesAmount m [] part c d → NamesAmount m verb line c d
+  with-amount : (verb : List ℕ) {part : List ℕ} {c d : ℕ} {f : Form} → line ≡ verb ++ part → NamesAmount m [] part c d f → NamesAmount m verb line c d f
   with-amount verb {c = c} e n = record {
     small = n .small;
     time = n .time;
@@ -184,11 +186,11 @@ module _ {m : ℕ} {part : List ℕ} where
   pub leave-unsaid : ((c : ℕ) → Names m [] part c → ⊥) → (o : Order) → Part m leave part o → ⊥
   leave-unsaid q o (leaves n) = q _ n
 
-  pub receive-unsaid : ((c d : ℕ) → NamesAmount m [] part c d → ⊥) → (o : Order) → Part m receive part o → ⊥
-  receive-unsaid q o (receives n) = q _ _ n
+  pub receive-unsaid : ((c d : ℕ) (f : Form) → NamesAmount m [] part c d f → ⊥) → (o : Order) → Part m receive part o → ⊥
+  receive-unsaid q o (receives n) = q _ _ _ n
 
-  pub withdraw-unsaid : ((c d : ℕ) → NamesAmount m [] part c d → ⊥) → (o : Order) → Part m withdraw part o → ⊥
-  withdraw-unsaid q o (withdraws n) = q _ _ n
+  pub withdraw-unsaid : ((c d : ℕ) (f : Form) → NamesAmount m [] part c d f → ⊥) → (o : Order) → Part m withdraw part o → ⊥
+  withdraw-unsaid q o (withdraws n) = q _ _ _ n
 
 -- `end` and nothing behind it, or something
 module _ {m : ℕ} {line : List ℕ} (b : Begins (ascii "end") line) where

@@ -1,9 +1,11 @@
 -- A line asks for one thing, and line 1 says one thing.
 use Prim.Native.Nat.{ℕ}
-use mathlib.Core.Path.{_≡_, refl, sym, ap, ap₂, _∙_, subst}
+use mathlib.Core.Path.{_≡_, refl, sym, ap, _∙_, subst}
 use mathlib.Core.List.{List, []}
 use native.Mathlib.Omega.{arith}
 use lib.ListN.{getD}
+use Rattle.times.specs.declared.Form.{Form}
+use Rattle.times.specs.declared.Form.the-variants.{NoTime}
 use Rattle.times.specs.declared.Time.the-variants.{Value}
 use Rattle.times.specs.Texts.{Readable}
 use Rattle.times.specs.Places.{value}
@@ -18,23 +20,22 @@ use Rattle.lines.specs.Words.{Names, NamesAmount, Says, Asked, said, not
 use Rattle.lines.proofs.Patterns.{written-same}
 use Rattle.lines.proofs.Orders.{Verb, Part, enters, leaves, receives, withdraws, ends, apart, apart-same, front-at, time-at}
 
-same-time : {t : List ℕ} {v w : ℕ} → Readable t v → Readable t w → v ≡ w
-same-time {t} {v} {w} p q = let e : Value v ≡ Value w = read-settled (value p) (value q) in cc
+same-time : {t : List ℕ} {v w : ℕ} {f g : Form} → Readable t v f → Readable t w g → (v ≡ w) × (f ≡ g)
+same-time {t} {v} {w} {f} {g} p q = let e : Value v f ≡ Value w g = read-settled (value p) (value q) in (cc, cc)
 
 same-names : {m : ℕ} {part : List ℕ} {c e : ℕ} → Names m [] part c → Names m [] part e → c ≡ e
 same-names {m} {part} {c} {e} n k = written-same m c e (n .small) (k .small) (sym (n .text) ∙ k .text)
 
-same-amount : {m : ℕ} {part : List ℕ} {c d e f : ℕ} → NamesAmount m [] part c d → NamesAmount m [] part e f → (c ≡ e) × (d ≡ f)
-same-amount {m} {part} {c} {d} {e} {f} n k = (
-  same-names (front-at m part n) (front-at m part k),
-  same-time (n .readable) (subst (λ (t : List ℕ). Readable t f) (sym (time-at m part k) ∙ time-at m part n) (k .readable)),
-)
+same-amount : {m : ℕ} {part : List ℕ} {c d e b : ℕ} {f g : Form} → NamesAmount m [] part c d f → NamesAmount m [] part e b g → (c ≡ e) × (d ≡ b) × (f ≡ g)
+same-amount {m} {part} {b = b} {g = g} n k =
+    let t = same-time (n .readable) (subst (λ (t : List ℕ). Readable t b g) (sym (time-at m part k) ∙ time-at m part n) (k .readable)) in
+    (same-names (front-at m part n) (front-at m part k), t .0, t .1)
 
 part-settled : {m : ℕ} {v : Verb} {part : List ℕ} {o p : Order} → Part m v part o → Part m v part p → o ≡ p
-part-settled (enters n) (enters k) = ap (λ (c : ℕ). Make (Enter c)) (same-names n k)
-part-settled (leaves n) (leaves k) = ap (λ (c : ℕ). Make (Leave c)) (same-names n k)
-part-settled (receives n) (receives k) = let q = same-amount n k in ap₂ (λ (c d : ℕ). Make (Receive c d)) (q .0) (q .1)
-part-settled (withdraws n) (withdraws k) = let q = same-amount n k in ap₂ (λ (c d : ℕ). Make (Withdraw c d)) (q .0) (q .1)
+part-settled (enters n) (enters k) = ap (λ (c : ℕ). Make (Enter c) NoTime) (same-names n k)
+part-settled (leaves n) (leaves k) = ap (λ (c : ℕ). Make (Leave c) NoTime) (same-names n k)
+part-settled (receives n) (receives k) = let q = same-amount n k in cc (q .0, q .1, q .2)
+part-settled (withdraws n) (withdraws k) = let q = same-amount n k in cc (q .0, q .1, q .2)
 part-settled ends ends = refl
 
 pub says-settled : {m : ℕ} {line : List ℕ} {o p : Order} → Says m line o → Says m line p → o ≡ p

@@ -3,6 +3,8 @@ use Prim.Native.Nat.{ℕ, zero, suc, _+_, _/_, _%_, _^_, _<_, _≤_}
 use mathlib.Core.Path.{_≡_}
 use mathlib.Core.List.{List, [], _∷_, _++_}
 use Rattle.ground.specs.Texts.{ascii}
+use Rattle.times.specs.declared.Form.{Form}
+use Rattle.times.specs.declared.Form.the-variants.{NoTime}
 use Rattle.times.specs.Texts.{Readable}
 use Rattle.sheet.specs.declared.Call.the-variants.{Enter, Leave, Receive, Withdraw}
 use Rattle.machine.specs.Rows.{Row, whole, spoiled}
@@ -21,19 +23,19 @@ pub record Names (m : ℕ) (verb line : List ℕ) (c : ℕ) : Type 0 where
   pub small : c < 2 ^ m
   pub text : line ≡ verb ++ written m c
 
--- a verb, P and T, with one space between parts: `recv P T`, `gone P T`
-pub record NamesAmount (m : ℕ) (verb line : List ℕ) (c d : ℕ) : Type 0 where
+-- a verb, P and T in the form f, with one space between parts: `recv P T`, `gone P T`
+pub record NamesAmount (m : ℕ) (verb line : List ℕ) (c d : ℕ) (f : Form) : Type 0 where
   pub small : c < 2 ^ m
   pub time : List ℕ
-  pub readable : Readable time d
+  pub readable : Readable time d f
   pub text : line ≡ verb ++ written m c ++ ascii " " ++ time
 
--- what a line says, of a sheet with m marks
+-- what a line says, of a sheet with m marks: a call, and the form of its running time, if it has one
 pub data Says (m : ℕ) (line : List ℕ) : Order → Type 0 where
-  enters : {c : ℕ} → Names m (ascii "in ") line c → Says m line (Make (Enter c))
-  leaves : {c : ℕ} → Names m (ascii "out ") line c → Says m line (Make (Leave c))
-  receives : {c d : ℕ} → NamesAmount m (ascii "recv ") line c d → Says m line (Make (Receive c d))
-  withdraws : {c d : ℕ} → NamesAmount m (ascii "gone ") line c d → Says m line (Make (Withdraw c d))
+  enters : {c : ℕ} → Names m (ascii "in ") line c → Says m line (Make (Enter c) NoTime)
+  leaves : {c : ℕ} → Names m (ascii "out ") line c → Says m line (Make (Leave c) NoTime)
+  receives : {c d : ℕ} {f : Form} → NamesAmount m (ascii "recv ") line c d f → Says m line (Make (Receive c d) f)
+  withdraws : {c d : ℕ} {f : Form} → NamesAmount m (ascii "gone ") line c d f → Says m line (Make (Withdraw c d) f)
   ends : line ≡ ascii "end" → Says m line End
 
 -- and what it asks for: a line that says nothing of these is unreadable

@@ -3,3 +3,4 @@ pub mod Behinds
 pub mod Fronts
 pub mod Settled
 pub mod Words
+pub mod Decided

@@ -16,11 +16,8 @@ use Rattle.pla.specs.Answers.{ReadsPla, WritesPla}
 use Rattle.pla.proofs.Settled.{reads-pla-settled, writes-pla-settled}
 use Rattle.listing.specs.Listing.{Listed, Totalled}
 use Rattle.listing.proofs.Settled.{list-settled, total-settled}
-use Rattle.times.specs.Answers.{Answered}
-use Rattle.times.specs.declared.Reading.{Reading}
-use Rattle.times.proofs.Settled.{answer-settled}
 use Rattle.vault.specs.declared.Reply.{Reply}
-use Rattle.vault.specs.Entries.{replied, HoldsBy, HoldsNoneBy, Put, ChangesBy, Changes, Tells, Lends, Compared, KeptAt, same, timeIn}
+use Rattle.vault.specs.Entries.{replied, HoldsBy, HoldsNoneBy, Put, ChangesBy, Changes, Tells, Lends, Compared, KeptAt, same}
 
 -- what is read, by a way of reading that gives one answer at most
 
@@ -106,6 +103,3 @@ before-settled (Compared.keeps p) (Compared.keeps q) = refl
 before-settled (Compared.keeps p) (Compared.changes q) = absurd (p q)
 before-settled (Compared.changes p) (Compared.keeps q) = absurd (q p)
 before-settled (Compared.changes p) (Compared.changes q) = refl
-
-pub time-settled : {t : List ℕ} {r z : Reply} → Answered t (timeIn r) → Answered t (timeIn z) → r ≡ z
-time-settled p q = ap (λ (x : Reading). record { answer = x .answer; place = x .place; value = x .value }) (answer-settled p q)

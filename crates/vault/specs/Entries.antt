@@ -5,7 +5,6 @@ use mathlib.Core.Path.{_≡_}
 use mathlib.Core.List.{List}
 use Rattle.lists.specs.Lists.{Before}
 use Rattle.tables.specs.Tables.{entry}
-use Rattle.times.specs.declared.Reading.{Reading}
 use Rattle.sheet.specs.Limits.{mostMarks, entries}
 use Rattle.sheet.specs.Record.{Table, kept}
 use Rattle.sheet.specs.declared.Sheet.{Sheet}
@@ -76,7 +75,3 @@ KeptAt t b s v = v ≡ record { number = 0; value = entry (kept t s) b }
 pub data Compared (first second : List ℕ) : Reply → Type 0 where
   keeps : (Before second first → ⊥) → Compared first second (replied 0 0)
   changes : Before second first → Compared first second (replied 0 1)
-
--- the reply of a running time, as the reading of `times`
-abbrev pub timeIn : Reply → Reading
-timeIn r = record { answer = r .answer; place = r .place; value = r .value }

@@ -14,6 +14,7 @@ use Rattle.machine.specs.Rows.{Row}
 use Rattle.machine.specs.Machine.{Onward, spoken}
 use Rattle.machine.specs.Heard.{Hears, nothing, page, refused}
 use Rattle.machine.proofs.Heard.{spoken-heard}
+use Rattle.times.specs.declared.Form.{Form}
 use Rattle.lines.specs.declared.Order.the-variants.{Make}
 use Rattle.lines.specs.Words.{Says, said}
 use Rattle.desk.specs.Heard as desk
@@ -30,14 +31,14 @@ or-more true b c e = refl
 or-more false true c e = refl
 or-more false false c e = clash e refl
 
-call-heard : (h : History) {line : List ℕ} {c : Call} → Says (h .marks) line (Make c)
+call-heard : (h : History) {line : List ℕ} {c : Call} {f : Form} → Says (h .marks) line (Make c f)
     → (eqb (numberOf (recordNow h) c) 0 || inLaterLine (numberOf (recordNow h) c)) ≡ true
-call-heard h {line} {c} s =
+call-heard h {line} {c} {f} s =
     let n = numberOf (recordNow h) c in
     or-more (eqb n 0) (desk.inLaterLine n) (eqb n 11)
-    (call-seen (recordNow h) (subst (λ (m : ℕ). Says m line (Make c)) (sym (marks-after (opened (h .marks)) (calls any (h .bookings)))) s))
+    (call-seen (recordNow h) (subst (λ (m : ℕ). Says m line (Make c f)) (sym (marks-after (opened (h .marks)) (calls any (h .bookings)))) s))
 
-date-heard : (h : History) {line : List ℕ} (d : Date) {c : Call} → Says (h .marks) line (Make c)
+date-heard : (h : History) {line : List ℕ} (d : Date) {c : Call} {f : Form} → Says (h .marks) line (Make c f)
     → (eqb (bookingNumber h (on d c)) 0 || inLaterLine (bookingNumber h (on d c))) ≡ true
 date-heard h d s = if (dateOk (h .year) (lastDate h) d) (λ e. rw e (call-heard h s)) (λ e. rw e refl)
 

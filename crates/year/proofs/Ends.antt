@@ -57,7 +57,7 @@ over-takes h (c ∷ rest) k begun =
 
 end-asked : (m : ℕ) → RowAsks m (judged (ascii "end")) (Plain End)
 unfolding judged
-end-asked m = RowAsks.read {line = ascii "end"} (plain (λ d c s. omega (arith, dated-long (s .date))) (said (ends refl)))
+end-asked m = RowAsks.read {line = ascii "end"} (plain (λ d c f s. omega (arith, dated-long (s .date))) (said (ends refl)))
 
 pub rows-at-end : {k : ℕ} {b : Bool} {h : History} (input rest : List ℕ) {said output : List ℕ} → Takes months (start months) input (in-line k (going b h) []) said
     → Prints (input ++ (ascii "end\n" ++ rest)) output → EndsWith (page h) output

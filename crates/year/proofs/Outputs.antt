@@ -35,9 +35,9 @@ use Rattle.year.specs.States.{Sensible}
 
 -- where what a line asks for leads, and what it prints
 abbrev pub led : ℕ → Bool → History → Slip → State × List ℕ
-led k b h (Dated d c) = (going true (afterBooking h (on d c)), spoken k (bookingNumber h (on d c)))
-led k true h (Plain (Make c)) = (going true h, refusal k 10)
-led k false h (Plain (Make c)) = (going false (afterBooking h (undated c)), spoken k (bookingNumber h (undated c)))
+led k b h (Dated d c f) = (going true (afterBooking h (on d c)), spoken k (bookingNumber h (on d c)))
+led k true h (Plain (Make c f)) = (going true h, refusal k 10)
+led k false h (Plain (Make c f)) = (going false (afterBooking h (undated c)), spoken k (bookingNumber h (undated c)))
 led k b h (Plain Unreadable) = (going b h, refusal k 10)
 led k b h (Plain End) = (over h, page h)
 
@@ -58,10 +58,10 @@ step-led (ended {b = true} w) = record { slip = _; asks = w; state = refl; said 
 step-led (ended {b = false} w) = record { slip = _; asks = w; state = refl; said = refl }
 
 pub led-step : (k : ℕ) (b : Bool) (h : History) (row : Row) (s : Slip) → RowAsks (h .marks) row s → Step k (going b h) row (led k b h s .0) (led k b h s .1)
-led-step k true h row (Dated d c) w = dated w
-led-step k false h row (Dated d c) w = dated w
-led-step k true h row (Plain (Make c)) w = late w
-led-step k false h row (Plain (Make c)) w = stock w
+led-step k true h row (Dated d c f) w = dated w
+led-step k false h row (Dated d c f) w = dated w
+led-step k true h row (Plain (Make c f)) w = late w
+led-step k false h row (Plain (Make c f)) w = stock w
 led-step k true h row (Plain Unreadable) w = unread w
 led-step k false h row (Plain Unreadable) w = unread w
 led-step k true h row (Plain End) w = ended w
@@ -116,10 +116,10 @@ pub good-opening : (y : ℕ) (f : First) → Kept (opening y f)
 good-opening y f = kept-begun y (firstRecord f .marks) (subst Good (first-record f) (good-first f))
 
 sensible-led : (k : ℕ) (b : Bool) (h : History) (s : Slip) → Sensible (going b h) → Sensible (led k b h s .0)
-sensible-led k true h (Dated d c) w = (kept-after-on (w .0) d c, λ z. absurd (true≢false z))
-sensible-led k false h (Dated d c) w = (kept-after-on (w .0) d c, λ z. absurd (true≢false z))
-sensible-led k true h (Plain (Make c)) w = w
-sensible-led k false h (Plain (Make c)) w =
+sensible-led k true h (Dated d c f) w = (kept-after-on (w .0) d c, λ z. absurd (true≢false z))
+sensible-led k false h (Dated d c f) w = (kept-after-on (w .0) d c, λ z. absurd (true≢false z))
+sensible-led k true h (Plain (Make c f)) w = w
+sensible-led k false h (Plain (Make c f)) w =
     (kept-after-undated (w .0) c (w .1 refl), λ z. ap (λ (d : Date). d .month) (last-after-undated h c) ∙ w .1 refl)
 sensible-led k true h (Plain Unreadable) w = w
 sensible-led k false h (Plain Unreadable) w = w

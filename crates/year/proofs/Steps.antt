@@ -26,6 +26,7 @@ use Rattle.machine.specs.Machine.{refusal, spoken}
 use Rattle.machine.specs.Steps.{pageRoom, StoppedBy}
 use Rattle.machine.proofs.Outputs.{stepped-one, stopped-one}
 use Rattle.machine.proofs.Steps.{answered, refused}
+use Rattle.times.specs.declared.Form.{Form}
 use Rattle.lines.specs.declared.Order.the-variants.{Make, End, Unreadable}
 use Rattle.year_lines.specs.declared.Named.{Named}
 use Rattle.year_lines.specs.declared.Named.the-variants.{Year as YearNamed, NoYear}
@@ -152,17 +153,17 @@ module _ {y : Year} {b : Bool} {h : History} (i : In y (going b h)) where
   module _ {row : Row} {k w : ℕ} {out later : List ℕ} where
     -- a call without a date
 
-    pub undated-late : {c : Call} → y .dated ≡ true → RowAsks (h .marks) row (Plain (Make c)) → Wrote out 0 (refusal k 10) w later → w ≤ pageRoom
+    pub undated-late : {c : Call} {f : Form} → y .dated ≡ true → RowAsks (h .marks) row (Plain (Make c f)) → Wrote out 0 (refusal k 10) w later → w ≤ pageRoom
         → SteppedTo k (going b h) row out (record { year = y; wrote = w }) later
     undated-late {c} e r p short =
         let q : b ≡ true = sym dated-is ∙ e in
         answered (going b h) 10 (subst (λ (t : Bool). Step k (going t h) row (going t h) (refusal k 10)) (sym q) (late r)) (i .is) refl p short
 
-    pub undated-stock : {c : Call} {a : Answer} → y .dated ≡ false → RowAsks (h .marks) row (Plain (Make c)) → a ≡ didOf mostMarks (y .sheet) c
+    pub undated-stock : {c : Call} {f : Form} {a : Answer} → y .dated ≡ false → RowAsks (h .marks) row (Plain (Make c f)) → a ≡ didOf mostMarks (y .sheet) c
         → Wrote out 0 (spoken k (a .number)) w later → w ≤ pageRoom
         → SteppedTo k (going b h) row out
         (record { year = record { stage = Going; dated = false; sheet = a .sheet; last = y .last; closed = y .closed }; wrote = w }) later
-    undated-stock {c} {a} e r did p short =
+    undated-stock {c} {a = a} e r did p short =
         let q : b ≡ false = sym dated-is ∙ e in
         let is = did-is c did in
         let stays = last-after-undated h c in
@@ -178,7 +179,7 @@ module _ {y : Year} {b : Bool} {h : History} (i : In y (going b h)) where
 
     -- a call on a day
 
-    module _ {d : Date} {c : Call} (r : RowAsks (h .marks) row (Dated d c)) where
+    module _ {d : Date} {c : Call} {f : Form} (r : RowAsks (h .marks) row (Dated d c f)) where
       not-taken : {year : Year} {a : ℕ} → a ≡ bookingNumber h (on d c) → (a ≡ 0 → ⊥) → year ≡ atStage Going true y → Wrote out 0 (spoken k a) w later → w ≤ pageRoom
           → SteppedTo k (going b h) row out (record { year = year; wrote = w }) later
       not-taken q n e p short =

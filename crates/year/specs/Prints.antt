@@ -12,6 +12,7 @@ use Rattle.dates.specs.declared.date.Date.{Date}
 use Rattle.sheet.specs.declared.Call.{Call}
 use Rattle.machine.specs.Rows.{Row}
 use Rattle.machine.specs.Machine.{Machine, Output, refusal, spoken}
+use Rattle.times.specs.declared.Form.{Form}
 use Rattle.lines.specs.declared.Order.the-variants.{Make, End, Unreadable}
 use Rattle.lines.specs.declared.First.{First}
 use Rattle.lines.specs.Words.{RowOpens}
@@ -57,11 +58,11 @@ pub data Step (k : ℕ) : State → Row → State → List ℕ → Type 0 where
   opens : {row : Row} {y : ℕ} {f : First} → RowOpens row f → firstNumber f ≡ 0 → Step k (named y) row (going false (opening y f)) []
   shut : {row : Row} {y : ℕ} {f : First} → RowOpens row f → (firstNumber f ≡ 0 → ⊥) → Step k (named y) row (over (opening y f)) (refusal k (firstNumber f))
   -- a call without a date, as `holdings` takes it; behind a dated line it is unreadable
-  stock : {row : Row} {h : History} {c : Call} → RowAsks (h .marks) row (Plain (Make c))
+  stock : {row : Row} {h : History} {c : Call} {f : Form} → RowAsks (h .marks) row (Plain (Make c f))
       → Step k (going false h) row (going false (afterBooking h (undated c))) (spoken k (bookingNumber h (undated c)))
-  late : {row : Row} {h : History} {c : Call} → RowAsks (h .marks) row (Plain (Make c)) → Step k (going true h) row (going true h) (refusal k 10)
+  late : {row : Row} {h : History} {c : Call} {f : Form} → RowAsks (h .marks) row (Plain (Make c f)) → Step k (going true h) row (going true h) (refusal k 10)
   -- a call on a day
-  dated : {row : Row} {b : Bool} {h : History} {d : Date} {c : Call} → RowAsks (h .marks) row (Dated d c)
+  dated : {row : Row} {b : Bool} {h : History} {d : Date} {c : Call} {f : Form} → RowAsks (h .marks) row (Dated d c f)
       → Step k (going b h) row (going true (afterBooking h (on d c))) (spoken k (bookingNumber h (on d c)))
   -- a line that cannot be read, and `end`, behind which the rows are printed
   unread : {row : Row} {b : Bool} {h : History} → RowAsks (h .marks) row (Plain Unreadable) → Step k (going b h) row (going b h) (refusal k 10)

@@ -17,7 +17,8 @@ use Rattle.machine.specs.Rows.{Row, whole, spoiled}
 use Rattle.lines.specs.declared.Order.{Order}
 use Rattle.lines.specs.declared.Order.the-variants.{Make, End, Unreadable}
 use Rattle.lines.specs.Words.{Asked as AskedPlain}
-use Rattle.lines.proofs.Decided.{begins-or, asked-decided as asked-plain-decided}
+use Rattle.lines.proofs.Decided.{asked-decided as asked-plain-decided}
+use Rattle.ground.proofs.Beginnings.{begins-or}
 use Rattle.year_lines.specs.declared.Named.{Named}
 use Rattle.year_lines.specs.declared.Named.the-variants.{Year, NoYear}
 use Rattle.year_lines.specs.declared.Slip.{Slip}
@@ -40,9 +41,9 @@ module _ (m : ℕ) (line : List ℕ) where
   -- what stands behind a date, and the line itself
   dated-decided : {d : Date} {rest : List ℕ} → DatedBy line d rest → (o : Order) × AskedPlain m rest o → (o : Order) × AskedPlain m line o
       → (s : Slip) × Asked m line s
-  dated-decided {d} w (Make c, a) b = (Dated d c, asked-dated w a)
-  dated-decided w (End, a) b = (Plain (b .0), asked-uncalled w a (λ c e. let z : _≡_ {A = ℕ} 0 1 = cc in omega arith) (b .1))
-  dated-decided w (Unreadable, a) b = (Plain (b .0), asked-uncalled w a (λ c e. let z : _≡_ {A = ℕ} 0 1 = cc in omega arith) (b .1))
+  dated-decided {d} w (Make c f, a) b = (Dated d c f, asked-dated w a)
+  dated-decided w (End, a) b = (Plain (b .0), asked-uncalled w a (λ c f e. let z : _≡_ {A = ℕ} 0 1 = cc in omega arith) (b .1))
+  dated-decided w (Unreadable, a) b = (Plain (b .0), asked-uncalled w a (λ c f e. let z : _≡_ {A = ℕ} 0 1 = cc in omega arith) (b .1))
 
   pub asked-decided : (s : Slip) × Asked m line s
   asked-decided = go (dating-decided line) (asked-plain-decided m line)

@@ -7,6 +7,7 @@ use Rattle.dates.proofs.Numbers.{writes-same}
 use Rattle.dates.proofs.Dated.{dated-one}
 use Rattle.sheet.specs.declared.Call.{Call}
 use Rattle.machine.specs.Rows.{Row}
+use Rattle.times.specs.declared.Form.{Form}
 use Rattle.lines.specs.declared.Order.the-variants.{Make}
 use Rattle.lines.specs.Words.{Says}
 use Rattle.lines.proofs.Settled.{says-settled, asked-settled as asked-plain-settled}
@@ -23,16 +24,16 @@ names-settled (year p) (other n) = absurd (n _ p)
 names-settled (other n) (year p) = absurd (n _ p)
 names-settled (other n) (other k) = refl
 
-says-on-settled : {m : ℕ} {line : List ℕ} {d e : Date} {a b : Call} → SaysOn m line d a → SaysOn m line e b → Dated d a ≡ Dated e b
-says-on-settled {m} {line} {d} {e} {a} {b} p q =
+says-on-settled : {m : ℕ} {line : List ℕ} {d e : Date} {a b : Call} {f g : Form} → SaysOn m line d a f → SaysOn m line e b g → Dated d a f ≡ Dated e b g
+says-on-settled {m} {line} {d} {e} {a} {b} {f} {g} p q =
     let w = dated-one (p .date) (q .date) in
-    let s : Make a ≡ Make b = says-settled (subst (λ (t : List ℕ). Says m t (Make a)) (w .1) (p .call)) (q .call) in
+    let s : Make a f ≡ Make b g = says-settled (subst (λ (t : List ℕ). Says m t (Make a f)) (w .1) (p .call)) (q .call) in
     cc (w .0)
 
 pub asked-settled : {m : ℕ} {line : List ℕ} {a b : Slip} → Asked m line a → Asked m line b → a ≡ b
 asked-settled (dated p) (dated q) = says-on-settled p q
-asked-settled (dated p) (plain n k) = absurd (n _ _ p)
-asked-settled (plain n k) (dated p) = absurd (n _ _ p)
+asked-settled (dated p) (plain n k) = absurd (n _ _ _ p)
+asked-settled (plain n k) (dated p) = absurd (n _ _ _ p)
 asked-settled (plain n k) (plain j l) = ap Plain (asked-plain-settled k l)
 
 pub row-names-settled : {row : Row} {a b : Named} → RowNames row a → RowNames row b → a ≡ b

@@ -11,18 +11,19 @@ use Rattle.dates.specs.Texts.{DatedBy, DatingOf}
 use Rattle.dates.proofs.Dated.{dated-rest, dated-one}
 use Rattle.sheet.specs.declared.Call.{Call}
 use Rattle.lines.specs.declared.Order.{Order}
+use Rattle.times.specs.declared.Form.{Form}
 use Rattle.lines.specs.declared.Order.the-variants.{Make}
 use Rattle.lines.specs.Words.{Says, Asked as AskedPlain, said}
 use Rattle.lines.proofs.Settled.{asked-settled}
 use Rattle.year_lines.specs.declared.Slip.the-variants.{Dated, Plain}
 use Rattle.year_lines.specs.Slips.{Asked, dated, plain}
 
-says-call : {m : ℕ} {line : List ℕ} {c : Call} → AskedPlain m line (Make c) → Says m line (Make c)
+says-call : {m : ℕ} {line : List ℕ} {c : Call} {f : Form} → AskedPlain m line (Make c f) → Says m line (Make c f)
 says-call (said s) = s
 
 module _ {m : ℕ} {line : List ℕ} where
   pub asked-undated : {o : Order} → DatingOf line NoDate → AskedPlain m line o → Asked m line (Plain o)
-  asked-undated n a = plain (λ d c s. n d (s .rest) (s .date)) a
+  asked-undated n a = plain (λ d c f s. n d (s .rest) (s .date)) a
 
   module _ {d : Date} {rest : List ℕ} (w : DatedBy line d rest) where
     -- the part behind the date, as it is lent
@@ -30,9 +31,9 @@ module _ {m : ℕ} {line : List ℕ} where
     rest-lent {o} a =
         subst (λ (t : List ℕ). AskedPlain m t o) (take-all (length line - 11) (drop 11 line) (omega (arith, length-drop 11 line)) ∙ sym (dated-rest w)) a
 
-    pub asked-dated : {c : Call} → AskedPlain m rest (Make c) → Asked m line (Dated d c)
+    pub asked-dated : {c : Call} {f : Form} → AskedPlain m rest (Make c f) → Asked m line (Dated d c f)
     asked-dated a = dated (record { rest = rest; date = w; call = says-call a })
 
-    pub asked-uncalled : {o p : Order} → AskedPlain m rest p → ((c : Call) → p ≡ Make c → ⊥) → AskedPlain m line o → Asked m line (Plain o)
+    pub asked-uncalled : {o p : Order} → AskedPlain m rest p → ((c : Call) (f : Form) → p ≡ Make c f → ⊥) → AskedPlain m line o → Asked m line (Plain o)
     asked-uncalled a n b =
-        plain (λ e c s. n c (asked-settled a (said (subst (λ (t : List ℕ). Says m t (Make c)) (dated-one (s .date) w .1) (s .call))))) b
+        plain (λ e c f s. n c f (asked-settled a (said (subst (λ (t : List ℕ). Says m t (Make c f)) (dated-one (s .date) w .1) (s .call))))) b

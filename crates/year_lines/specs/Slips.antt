@@ -5,6 +5,7 @@ use mathlib.Core.List.{List, _++_}
 use Rattle.ground.specs.Texts.{ascii}
 use Rattle.dates.specs.declared.date.Date.{Date}
 use Rattle.dates.specs.Texts.{Writes, DatedBy}
+use Rattle.times.specs.declared.Form.{Form}
 use Rattle.sheet.specs.declared.Call.{Call}
 use Rattle.machine.specs.Rows.{Row, whole, spoiled}
 use Rattle.lines.specs.declared.Order.{Order}
@@ -27,15 +28,15 @@ pub data NamesYear (line : List ℕ) : Named → Type 0 where
   other : ((y : ℕ) → YearLine line y → ⊥) → NamesYear line NoYear
 
 -- a line behind line 2: a date, one space and a line of the desk that makes a call
-pub record SaysOn (m : ℕ) (line : List ℕ) (d : Date) (c : Call) : Type 0 where
+pub record SaysOn (m : ℕ) (line : List ℕ) (d : Date) (c : Call) (f : Form) : Type 0 where
   pub rest : List ℕ
   pub date : DatedBy line d rest
-  pub call : Says m rest (Make c)
+  pub call : Says m rest (Make c f)
 
 -- and what it asks for: what is not of this form is read as a line of the desk
 pub data Asked (m : ℕ) (line : List ℕ) : Slip → Type 0 where
-  dated : {d : Date} {c : Call} → SaysOn m line d c → Asked m line (Dated d c)
-  plain : {o : Order} → ((d : Date) (c : Call) → SaysOn m line d c → ⊥) → AskedPlain m line o → Asked m line (Plain o)
+  dated : {d : Date} {c : Call} {f : Form} → SaysOn m line d c f → Asked m line (Dated d c f)
+  plain : {o : Order} → ((d : Date) (c : Call) (f : Form) → SaysOn m line d c f → ⊥) → AskedPlain m line o → Asked m line (Plain o)
 
 -- the same of a line of an input: one that is too long or not ended is unreadable
 

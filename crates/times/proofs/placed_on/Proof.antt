@@ -12,8 +12,8 @@ enum-known-t c = search needs
 enum-known-t-2 : tie.Need-enum-known-t-2
 enum-known-t-2 c = search needs
 
-add-t6 : tie.Need-add-t6
-add-t6 c = omega (arith, ap placeOf (c .before .t2 .given .1))
+add-t7 : tie.Need-add-t7
+add-t7 c = omega (arith, ap placeOf (c .before .t2 .given .1))
 
 returns : tie.Need-returns
 returns c = sym (ap (placedOn _) (c .before .t .given .1))
@@ -22,4 +22,4 @@ returns-2 : tie.Need-returns-2
 returns-2 c = sym (ap (placedOn _) (c .before .t2 .given .1))
 
 pub placed-on-spec : {M : Type 1} → statement M
-placed-on-spec = tie.close (tie.spec enum-known-t enum-known-t-2 add-t6 returns returns-2)
+placed-on-spec = tie.close (tie.spec enum-known-t enum-known-t-2 add-t7 returns returns-2)

@@ -24,7 +24,7 @@ part-read-start c = omega (arith, dated-long (dating c .1))
 returns-2 : tie.Need-returns-2
 returns-2 c =
     let w = dating (c .before .before .before .before) .1 in
-    asked-uncalled w (rest-lent w (c .before .before .read2 .ensures)) (λ call e. ⊎-elim (λ z. omega arith) (λ z. omega arith) (rw e at (c .before .match2 .keys2))) (c .read3 .ensures)
+    asked-uncalled w (rest-lent w (c .before .before .read2 .ensures)) (λ call f e. ⊎-elim (λ z. omega arith) (λ z. omega arith) (rw e at (c .before .match2 .keys2))) (c .read3 .ensures)
 
 returns-3 : tie.Need-returns-3
 returns-3 c =

@@ -16,7 +16,7 @@ returns : tie.Need-returns
 returns c =
     λ b h i.
     let s = (c .before .before .before .before .before .before .before .before .before .before) in
-    c .before .before .on-day .ensures b h (rowOf (s .args .line)) i
+    c .before .before .on-day .ensures _ b h (rowOf (s .args .line)) i
     (subst (RowAsks (h .marks) (rowOf (s .args .line))) (c .before .before .before .before .before .slip .given .1) (subst (λ (m : ℕ). RowAsks m (rowOf (s .args .line)) (c .before .before .before .before .before .before .before .slip-of .result)) (marks-is i) (c .before .before .before .before .before .before .before .slip-of .ensures)))
 
 returns-2 : tie.Need-returns-2

@@ -13,14 +13,14 @@ use Rattle.year.proofs.stages.on_day.Tie as tie
 
 returns : tie.Need-returns
 returns c =
-    λ b h row i r.
+    λ f b h row i r.
     let e : c .before .before .before .before .before .in-order .result ≡ false = not-true _ (c .before .before .before .before .if1 .taken) in
     day-bad i r (sym (c .before .before .before .before .before .in-order .ensures) ∙ e) (c .before .before .before .before .before .before .before .at-stage .ensures) (c .before .before .refusal .ensures)
     (spoken-short (c .before .before .before .before .before .before .before .before .before .args .number) 11 (c .before .before .refusal .ensures) (omega arith) (omega arith))
 
 returns-2 : tie.Need-returns-2
 returns-2 c =
-    λ b h row i r.
+    λ f b h row i r.
     let e : c .before .before .before .before .before .before .before .before .before .in-order .result ≡ true = not-false _ (c .before .before .before .before .before .before .before .before .if1 .left) in
     day-refused i r (sym (c .before .before .before .before .before .before .before .before .before .in-order .ensures) ∙ e) (c .before .before .before .before .before .before .did .ensures) (λ z. omega (arith, c .if2 .taken)) (c .before .before .before .before .before .before .before .before .before .before .before .at-stage .ensures) (c .before .before .before .before .spoken .ensures)
     (spoken-short (c .before .before .before .before .before .before .before .before .before .before .before .before .before .args .number) (c .before .before .before .before .before .before .did .result .number) (c .before .before .before .before .spoken .ensures) (omega arith) (omega arith))
@@ -35,7 +35,7 @@ totals-to-requires c κs =
 
 returns-3 : tie.Need-returns-3
 returns-3 c =
-    λ b h row i r.
+    λ f b h row i r.
     let e : c .before .before .before .before .before .before .before .before .before .before .before .in-order .result ≡ true = not-false _ (c .before .before .before .before .before .before .before .before .before .before .if1 .left) in
     day-taken i r (sym (c .before .before .before .before .before .before .before .before .before .before .before .in-order .ensures) ∙ e) (c .before .before .before .before .before .before .before .before .did .ensures) (c .before .before .if2 .left) (c .before .totals-to .ensures b h i) (c .before .before .before .before .before .before .spoken .ensures)
     (spoken-short (c .before .before .before .before .before .before .before .before .before .before .before .before .before .before .before .args .number) (c .before .before .before .before .before .before .before .before .did .result .number) (c .before .before .before .before .before .before .spoken .ensures) (omega arith) (omega arith))

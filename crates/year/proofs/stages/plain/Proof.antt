@@ -14,7 +14,7 @@ put-page-requires : tie.Need-put-page-requires
 put-page-requires c κs = let s = (c .before .before .before .before) in (s .pre .0, omega (arith, s .pre .1))
 
 returns : tie.Need-returns
-returns c = λ b h row i r. c .before .before .undated .ensures b h row i (subst (λ (o : Order). RowAsks (h .marks) row (Plain o)) (c .before .before .before .before .before .order .given .1) r)
+returns c = λ b h row i r. c .before .before .undated .ensures _ b h row i (subst (λ (o : Order). RowAsks (h .marks) row (Plain o)) (c .before .before .before .before .before .order .given .1) r)
 
 returns-2 : tie.Need-returns-2
 returns-2 c =

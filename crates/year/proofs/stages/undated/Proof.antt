@@ -8,12 +8,12 @@ use Rattle.year.proofs.stages.undated.Tie as tie
 
 returns : tie.Need-returns
 returns c =
-    λ b h row i r.
+    λ f b h row i r.
     undated-late i (c .before .before .before .before .if1 .taken) r (c .before .before .refusal .ensures) (spoken-short (c .before .before .before .before .before .before .args .number) 10 (c .before .before .refusal .ensures) (omega arith) (omega arith))
 
 returns-2 : tie.Need-returns-2
 returns-2 c =
-    λ b h row i r.
+    λ f b h row i r.
     undated-stock i (c .before .before .before .before .before .before .before .before .before .if1 .left) r (c .before .before .before .before .before .before .before .did .ensures) (c .before .before .before .before .before .spoken .ensures)
     (spoken-short (c .before .before .before .before .before .before .before .before .before .before .before .args .number) (c .before .before .before .before .before .before .before .did .result .number) (c .before .before .before .before .before .spoken .ensures) (omega arith) (omega arith))
 
