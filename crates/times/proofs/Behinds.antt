@@ -65,7 +65,7 @@ module _ (K : ℕ → List ℕ → ℕ → Form → Type 0) where
   module _ (some : (x : ℕ) → x ≤ 59 → Open (K x) []) where
     one-yet : (a : ℕ) → UpTo 53 a → Open (Two K) (a ∷ [])
     one-yet a h = let o = some ((a - 48) * 10 + (48 - 48)) (omega arith) in
-      (48 ∷ o .0, o .1, o .2, pair a 48 (o .0) (o .1) (o .2) h (omega arith, omega arith) (o .3))
+        (48 ∷ o .0, o .1, o .2, pair a 48 (o .0) (o .1) (o .2) h (omega arith, omega arith) (o .3))
 
     none-yet : Open (Two K) []
     none-yet = let o = one-yet 48 (omega arith, omega arith) in (48 ∷ o .0, o .1, o .2, o .3)
