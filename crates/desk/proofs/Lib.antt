@@ -4,3 +4,4 @@ pub mod Outputs
 pub mod Steps
 pub mod Answers
 pub mod Samples
+pub mod Forms

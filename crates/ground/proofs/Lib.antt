@@ -2,3 +2,4 @@ pub mod Cases
 pub mod Every
 pub mod Areas
 pub mod Beginnings
+pub mod Without

@@ -1,4 +1,5 @@
 pub mod Patterns
 pub mod Orders
 pub mod Settled
+pub mod Forms
 pub mod Decided

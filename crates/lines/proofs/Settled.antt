@@ -20,7 +20,7 @@ use Rattle.lines.specs.Words.{Names, NamesAmount, Says, Asked, said, not
 use Rattle.lines.proofs.Patterns.{written-same}
 use Rattle.lines.proofs.Orders.{Verb, Part, enters, leaves, receives, withdraws, ends, apart, apart-same, front-at, time-at}
 
-same-time : {t : List ℕ} {v w : ℕ} {f g : Form} → Readable t v f → Readable t w g → (v ≡ w) × (f ≡ g)
+pub same-time : {t : List ℕ} {v w : ℕ} {f g : Form} → Readable t v f → Readable t w g → (v ≡ w) × (f ≡ g)
 same-time {t} {v} {w} {f} {g} p q = let e : Value v f ≡ Value w g = read-settled (value p) (value q) in (cc, cc)
 
 same-names : {m : ℕ} {part : List ℕ} {c e : ℕ} → Names m [] part c → Names m [] part e → c ≡ e

@@ -4,7 +4,7 @@ use mathlib.Core.Path.{_≡_, refl, sym, ap, ap₂, _∙_, subst}
 use mathlib.Core.List.{List, [], _∷_, _++_}
 use Rattle.ground.specs.Areas.{Wrote}
 use Rattle.ground.proofs.Areas.{wrote-settled}
-use Rattle.machine.specs.Rows.{Row, rows}
+use Rattle.machine.specs.Rows.{Row, whole, rows, SameBut, same, but}
 use Rattle.machine.specs.Machine.{Machine, Onward, stopped, line, Output}
 use Rattle.machine.specs.Answers.{OneAnswer, SomeAnswer}
 use Rattle.machine.specs.Pieces.{Position, in-line, stateIn, Takes, none, byte, newline, Finishes, ended, cut-off, FedBy, FinishedBy}
@@ -77,3 +77,11 @@ pub takes-kept : {M : Machine} (P : M .State → Type 0) → ((k : ℕ) (s t : M
 takes-kept P kept none c = c
 takes-kept P kept (byte n p) c = takes-kept P kept p c
 takes-kept P kept (newline e p) c = takes-kept P kept p (kept _ _ _ _ _ e c)
+
+-- lines that lead to the same state and print the same can stand for each other
+pub onward-but : (M : Machine) (R : List ℕ → List ℕ → Type 0)
+    → ((k : ℕ) (s t : M .State) (line other now : List ℕ) → R line other → M .step k s (whole line) t now → M .step k s (whole other) t now)
+    → {k : ℕ} {s : M .State} {a b : List Row} {text : List ℕ} → SameBut R a b → Onward M k s a text → Onward M k s b text
+onward-but M R alike SameBut.none (stopped x) = stopped x
+onward-but M R alike (same q) (line x p) = line x (onward-but M R alike q p)
+onward-but M R alike (but r q) (line x p) = line (alike _ _ _ _ _ _ r x) (onward-but M R alike q p)

@@ -25,3 +25,9 @@ rowsFrom begun (b ∷ rest) = cond (eqb b 10) (judged begun ∷ rowsFrom [] rest
 
 abbrev pub rows : List ℕ → List Row
 rows input = rowsFrom [] input
+
+-- the same lines, but that in places stands another line, which R relates to the one that stood there
+pub data SameBut (R : List ℕ → List ℕ → Type 0) : List Row → List Row → Type 0 where
+  none : SameBut R [] []
+  same : {row : Row} {a b : List Row} → SameBut R a b → SameBut R (row ∷ a) (row ∷ b)
+  but : {line other : List ℕ} {a b : List Row} → R line other → SameBut R a b → SameBut R (whole line ∷ a) (whole other ∷ b)

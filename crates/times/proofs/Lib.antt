@@ -4,3 +4,4 @@ pub mod Fronts
 pub mod Settled
 pub mod Words
 pub mod Decided
+pub mod Bytes

@@ -2,3 +2,4 @@ pub mod Years
 pub mod Slips
 pub mod Settled
 pub mod Decided
+pub mod Forms
