@@ -1,5 +1,5 @@
-// Runs the known sheets, times and amounts of 01 that are not shown of the definitions, and prints what the library answers; the file `stdout` has
-// what is to come. 000's first function is there with its own six lines beside ours.
+// Runs the known sheets, times and amounts of 01 that are not shown of the definitions, and the times of 02, and prints what the library answers; the
+// file `stdout` has what is to come. 000's first function is there with its own six lines beside ours.
 use boxes;
 use libc::STDOUT_FILENO;
 use listing;
@@ -234,13 +234,29 @@ fn stored() {
     }
 }
 
-// A text that is no running time: the answer and the place.
-fn time() {
-    let r = times::answer(b"012:30");
-    word(b"time 012:30");
+// A text: the answer, the place, the value and the form.
+fn time(text: &[u8]) {
+    let r = times::answer(text);
+    word(b"time ");
+    word(text);
     number(r.answer);
     number(r.place);
+    number(r.value);
+    number(r.form);
     word(b"\n");
+}
+
+fn times_of_both_forms() {
+    time(b"012:30");
+    time(b"1:30");
+    time(b"9:59:59");
+    time(b"10:00:00");
+    time(b"0:00:00");
+    time(b"1:30:");
+    time(b"1:30:6");
+    time(b"1:60:00");
+    time(b"1:3");
+    time(b"1:00:000");
 }
 
 fn amount(d: u64) {
@@ -283,7 +299,7 @@ fn main() {
     known_sheet(5, &function);
     document();
     stored();
-    time();
+    times_of_both_forms();
     amount(0);
     amount(1);
     amount(35_999);
