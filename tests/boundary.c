@@ -1,6 +1,6 @@
 /* Every entry at its limits, through vault.h: each answer that it can give, areas of every length around the one that is needed, empty areas with
-   a null pointer and without, numbers above 2^32, guard bytes around what is lent, the known sheets, PLA texts line by line and byte by byte, and
-   calls from threads with small stacks.
+   a null pointer and without, numbers above 2^32, guard bytes around what is lent, the known sheets, running times, PLA texts line
+   by line and byte by byte, and calls from threads with small stacks.
    Prints what failed and the number of checks; the exit status is 0 only if none failed. */
 #define _POSIX_C_SOURCE 200809L
 #include "vault.h"
@@ -331,22 +331,178 @@ static void comparing(void)
     check(is(vault_before(NULL, 0, NULL, 0), 0, 0, 0) && is(vault_before(a, 0, NULL, 0), 0, 0, 0), "two empty lists", 0);
 }
 
+/* ---- running times */
+
+static int alike(struct vault_time a, struct vault_time b)
+{
+    return a.answer == b.answer && a.place == b.place && a.value == b.value && a.form == b.form;
+}
+
+/* A text between guard bytes is read so, and stays. */
+static void reads(const char *text, size_t n, struct vault_time want)
+{
+    struct area *a = lent(n);
+    memcpy(a->p, text, n);
+    check(alike(vault_read_time(a->p, n), want) && holds(a, (const uint8_t *)text, n), text, (long)n);
+}
+
+struct time {
+    const char *text;
+    struct vault_time want;
+};
+
+static void texts_of_times(const struct time *t, size_t n)
+{
+    for (size_t i = 0; i < n; i++)
+        reads(t[i].text, strlen(t[i].text), t[i].want);
+}
+
+#define TIMES(rows) texts_of_times(rows, sizeof rows / sizeof *rows)
+
+static void readable_times(void)
+{
+    static const struct time t[] = {
+        {"0:00", {0, 0, 0, 1}},        {"0:01", {0, 0, 1, 1}},        {"0:59", {0, 0, 59, 1}},       {"1:00", {0, 0, 60, 1}},
+        {"1:30", {0, 0, 90, 1}},       {"9:07", {0, 0, 547, 1}},      {"9:59", {0, 0, 599, 1}},      {"10:00", {0, 0, 600, 1}},
+        {"59:59", {0, 0, 3599, 1}},    {"60:00", {0, 0, 3600, 1}},    {"90:00", {0, 0, 5400, 1}},    {"99:59", {0, 0, 5999, 1}},
+        {"100:00", {0, 0, 6000, 1}},   {"599:59", {0, 0, 35999, 1}},  {"1:00:00", {0, 0, 3600, 2}},  {"1:00:01", {0, 0, 3601, 2}},
+        {"1:01:00", {0, 0, 3660, 2}},  {"1:30:00", {0, 0, 5400, 2}},  {"1:30:59", {0, 0, 5459, 2}},  {"2:03:04", {0, 0, 7384, 2}},
+        {"5:59:59", {0, 0, 21599, 2}}, {"6:00:00", {0, 0, 21600, 2}}, {"9:00:00", {0, 0, 32400, 2}}, {"9:59:59", {0, 0, 35999, 2}},
+    };
+    TIMES(t);
+}
+
+static void faulty_times(void)
+{
+    static const struct time t[] = {
+        /* minutes and seconds */
+        {"", {10, 0, 0, 0}},
+        {"5", {10, 1, 0, 0}},
+        {"599", {10, 3, 0, 0}},
+        {"5:", {10, 2, 0, 0}},
+        {"1:3", {10, 3, 0, 0}},
+        {"12:3", {10, 4, 0, 0}},
+        {"5:6", {10, 2, 0, 0}},
+        {"5:60", {10, 2, 0, 0}},
+        {"5:599", {10, 4, 0, 0}},
+        {"600:00", {10, 2, 0, 0}},
+        {"6000:00", {10, 2, 0, 0}},
+        {"5990:00", {10, 3, 0, 0}},
+        {"1000:00", {10, 3, 0, 0}},
+        {"012:30", {10, 1, 0, 0}},
+        {"00:00", {10, 1, 0, 0}},
+        {":30", {10, 0, 0, 0}},
+        {"5::59", {10, 2, 0, 0}},
+        /* hours: cut, a number too large, a digit too many or too few */
+        {"1:30:", {10, 5, 0, 0}},
+        {"1:30:0", {10, 6, 0, 0}},
+        {"1:30:5", {10, 6, 0, 0}},
+        {"1:30:6", {10, 5, 0, 0}},
+        {"1:30:60", {10, 5, 0, 0}},
+        {"1:30:99", {10, 5, 0, 0}},
+        {"1:60:00", {10, 2, 0, 0}},
+        {"1:99:00", {10, 2, 0, 0}},
+        {"1:5:00", {10, 3, 0, 0}},
+        {"1:300:00", {10, 4, 0, 0}},
+        {"1:00:000", {10, 7, 0, 0}},
+        {"1:00:00:", {10, 7, 0, 0}},
+        {"1:00:00:00", {10, 7, 0, 0}},
+        /* hours that are not 1 to 9: as far as minutes go */
+        {"0:00:00", {10, 4, 0, 0}},
+        {"0:59:59", {10, 4, 0, 0}},
+        {"00:00:00", {10, 1, 0, 0}},
+        {"01:00:00", {10, 1, 0, 0}},
+        {"10:00:", {10, 5, 0, 0}},
+        {"10:00:00", {10, 5, 0, 0}},
+        {"12:30:00", {10, 5, 0, 0}},
+        {"99:59:59", {10, 5, 0, 0}},
+        {"100:00:00", {10, 6, 0, 0}},
+        {"599:59:59", {10, 6, 0, 0}},
+        {"600:00:00", {10, 2, 0, 0}},
+        {":00:00", {10, 0, 0, 0}},
+        /* two colons in a row */
+        {"::", {10, 0, 0, 0}},
+        {"1::", {10, 2, 0, 0}},
+        {"1::00:00", {10, 2, 0, 0}},
+        {"1:30::00", {10, 5, 0, 0}},
+        {"1:30:00::", {10, 7, 0, 0}},
+        /* spaces, signs, other bytes */
+        {" 5:59", {10, 0, 0, 0}},
+        {"5 :59", {10, 1, 0, 0}},
+        {"5:59\n", {10, 4, 0, 0}},
+        {"5:5x", {10, 3, 0, 0}},
+        {" 1:30:00", {10, 0, 0, 0}},
+        {"1 :30:00", {10, 1, 0, 0}},
+        {"1: 30:00", {10, 2, 0, 0}},
+        {"1:30 :00", {10, 4, 0, 0}},
+        {"1:30: 00", {10, 5, 0, 0}},
+        {"1:30:0 ", {10, 6, 0, 0}},
+        {"1:30:00 ", {10, 7, 0, 0}},
+        {"1:30:00\n", {10, 7, 0, 0}},
+        {"1:30:00\r", {10, 7, 0, 0}},
+        {"-5:59", {10, 0, 0, 0}},
+        {"5:-1", {10, 2, 0, 0}},
+        {"+1:30:00", {10, 0, 0, 0}},
+        {"-1:30:00", {10, 0, 0, 0}},
+        {"1:+3:00", {10, 2, 0, 0}},
+        {"1:-3:00", {10, 2, 0, 0}},
+        {"1:30:+1", {10, 5, 0, 0}},
+        {"1:30:-1", {10, 5, 0, 0}},
+        {"1.30.00", {10, 1, 0, 0}},
+        {"1:30.00", {10, 4, 0, 0}},
+        {"1:30;00", {10, 4, 0, 0}},
+        {"1:30/00", {10, 4, 0, 0}},
+        {"1:30:/0", {10, 5, 0, 0}},
+        {"1h30:00", {10, 1, 0, 0}},
+        {"l:30:00", {10, 0, 0, 0}},
+        {"1:3O:00", {10, 3, 0, 0}},
+        /* bytes that are not ASCII: those of a time with the high bit on, digits of other scripts, a wide colon, a byte-order mark */
+        {"\xb1:30:00", {10, 0, 0, 0}},
+        {"1\xba" "30:00", {10, 1, 0, 0}},
+        {"1:\xb3" "0:00", {10, 2, 0, 0}},
+        {"1:30\xba" "00", {10, 4, 0, 0}},
+        {"1:30:0\xb0", {10, 6, 0, 0}},
+        {"1:30:00\xa0", {10, 7, 0, 0}},
+        {"\xd9\xa1:30:00", {10, 0, 0, 0}},
+        {"1:3\xd9\xa0:00", {10, 3, 0, 0}},
+        {"1\xef\xbc\x9a" "30:00", {10, 1, 0, 0}},
+        {"\xef\xbb\xbf" "1:30:00", {10, 0, 0, 0}},
+    };
+    TIMES(t);
+}
+
+/* The length counts, and nothing else: zero bytes, and lengths of which the low bits are those of a readable text. */
+static void lengths_of_times(void)
+{
+    static const struct vault_time minutes = {VAULT_DONE, 0, 90, VAULT_FORM_MINUTES};
+    static char text[(1 << 16) + 8];
+    check(alike(vault_read_time(NULL, 0), (struct vault_time){VAULT_UNREADABLE, 0, 0, VAULT_FORM_NONE}), "no text", 0);
+    reads("1:30:00", 4, minutes);
+    reads("1:30:00", 5, (struct vault_time){VAULT_UNREADABLE, 5, 0, VAULT_FORM_NONE});
+    reads("1:30\0", 4, minutes);
+    reads("1:30\0", 5, (struct vault_time){VAULT_UNREADABLE, 4, 0, VAULT_FORM_NONE});
+    reads("5:5\0", 4, (struct vault_time){VAULT_UNREADABLE, 3, 0, VAULT_FORM_NONE});
+    reads("\0" "1:30", 5, (struct vault_time){VAULT_UNREADABLE, 0, 0, VAULT_FORM_NONE});
+    reads("1:30\0" "00", 7, (struct vault_time){VAULT_UNREADABLE, 4, 0, VAULT_FORM_NONE});
+    reads("1:30:\0" "0", 7, (struct vault_time){VAULT_UNREADABLE, 5, 0, VAULT_FORM_NONE});
+    reads("1:30:00\0", 8, (struct vault_time){VAULT_UNREADABLE, 7, 0, VAULT_FORM_NONE});
+    for (size_t i = 0; i < 5; i++) {
+        static const uint64_t place[] = {1, 3, 3, 2, 0};
+        memset(text, "0156:"[i], ROOM);
+        reads(text, ROOM, (struct vault_time){VAULT_UNREADABLE, place[i], 0, VAULT_FORM_NONE});
+    }
+    memset(text, '0', sizeof text);
+    memcpy(text, "1:30:00", 7);
+    for (size_t high = 1 << 8; high <= 1 << 16; high <<= 8)
+        for (size_t n = high; n <= high + 7; n++)
+            check(alike(vault_read_time(text, n), (struct vault_time){VAULT_UNREADABLE, 7, 0, VAULT_FORM_NONE}), "a long text", (long)n);
+}
+
 static void times(void)
 {
-    static const struct {
-        const char *text;
-        uint64_t answer, place, value;
-    } t[] = {
-        {"0:00", 0, 0, 0},     {"0:59", 0, 0, 59},    {"1:00", 0, 0, 60},    {"9:07", 0, 0, 547},   {"59:59", 0, 0, 3599}, {"100:00", 0, 0, 6000},
-        {"599:59", 0, 0, 35999}, {"600:00", 10, 2, 0},  {"60:00", 0, 0, 3600}, {"6000:00", 10, 2, 0}, {"12:3", 10, 4, 0},    {"012:30", 10, 1, 0},
-        {"00:00", 10, 1, 0},   {"", 10, 0, 0},        {":30", 10, 0, 0},     {"5", 10, 1, 0},       {"5:", 10, 2, 0},      {"5:6", 10, 2, 0},
-        {"5:60", 10, 2, 0},    {"5:5x", 10, 3, 0},    {"5:599", 10, 4, 0},   {"5:59\n", 10, 4, 0},  {" 5:59", 10, 0, 0},   {"-5:59", 10, 0, 0},
-        {"5 :59", 10, 1, 0},   {"5:-1", 10, 2, 0},    {"599", 10, 3, 0},     {"5990:00", 10, 3, 0}, {"1000:00", 10, 3, 0}, {"5::59", 10, 2, 0},
-    };
-    for (size_t i = 0; i < sizeof t / sizeof *t; i++)
-        check(is(vault_read_time(t[i].text, strlen(t[i].text)), t[i].answer, t[i].place, t[i].value), t[i].text, (long)i);
-    check(is(vault_read_time(NULL, 0), VAULT_UNREADABLE, 0, 0), "no text", 0);
-    check(is(vault_read_time("5:5\0", 4), VAULT_UNREADABLE, 3, 0), "a zero byte", 0);
+    readable_times();
+    faulty_times();
+    lengths_of_times();
 }
 
 /* ---- PLA texts */
@@ -871,6 +1027,8 @@ static void *night(void *arg)
                  vault_total(form[now], n).value != total;
         r = vault_write_pla(form[now], n, text, sizeof text);
         wrong += r.answer != VAULT_DONE || vault_read_pla(text, (size_t)r.value, form[!now], VAULT_FORM_SIZE).value != 5 + size;
+        struct vault_time time = seed % 2 ? vault_read_time("1:30:00", 7) : vault_read_time("90:00", 5);
+        wrong += time.answer != VAULT_DONE || time.value != 5400 || time.form != (seed % 2 ? VAULT_FORM_HOURS : VAULT_FORM_MINUTES);
     }
     return (void *)(size_t)wrong;
 }
