@@ -1,6 +1,6 @@
 /* Every entry at its limits, through vault.h: each answer that it can give, areas of every length around the one that is needed, empty areas with
-   a null pointer and without, numbers above 2^32, guard bytes around what is lent, the known sheets, running times, PLA texts line
-   by line and byte by byte, and calls from threads with small stacks.
+   a null pointer and without, numbers above 2^32, guard bytes around what is lent, the known sheets, every beginning of a running time with every byte
+   behind it, PLA texts line by line and byte by byte, and calls from threads with small stacks.
    Prints what failed and the number of checks; the exit status is 0 only if none failed. */
 #define _POSIX_C_SOURCE 200809L
 #include "vault.h"
@@ -498,11 +498,116 @@ static void lengths_of_times(void)
             check(alike(vault_read_time(text, n), (struct vault_time){VAULT_UNREADABLE, 7, 0, VAULT_FORM_NONE}), "a long text", (long)n);
 }
 
+/* All the readable texts there are, put one after another into a tree whose nodes are their beginnings. */
+enum { BEGINNINGS = 76981 };
+
+static struct beginning {
+    uint32_t longer[11]; /* the beginning with a byte more, one of 0 to 9 and the colon, which is the next byte; 0: none */
+    uint64_t value, form; /* of the text itself; form 0: it is a beginning only */
+} beginnings[BEGINNINGS];
+
+/* Reads by the tree: as far as there is a longer beginning. */
+static struct vault_time told(const uint8_t *text, size_t n)
+{
+    const struct beginning *b = beginnings;
+    size_t k = 0;
+    for (; k < n && text[k] >= '0' && text[k] <= ':' && b->longer[text[k] - '0'] != 0; k++)
+        b = beginnings + b->longer[text[k] - '0'];
+    if (k < n || b->form == VAULT_FORM_NONE)
+        return (struct vault_time){VAULT_UNREADABLE, k, 0, VAULT_FORM_NONE};
+    return (struct vault_time){VAULT_DONE, 0, b->value, b->form};
+}
+
+static uint32_t made_of(const char *text, uint64_t value, uint64_t form, uint32_t nodes)
+{
+    struct beginning *b = beginnings;
+    for (; *text != '\0'; text++) {
+        uint32_t *longer = &b->longer[*text - '0'];
+        if (*longer == 0 && nodes < BEGINNINGS)
+            *longer = nodes++;
+        b = beginnings + *longer;
+    }
+    b->value = value;
+    b->form = form;
+    return nodes;
+}
+
+static void grow(void)
+{
+    char text[32];
+    uint32_t nodes = 1;
+    for (uint64_t t = 0; t < 600 * 60; t++) {
+        snprintf(text, sizeof text, "%d:%02d", (int)(t / 60), (int)(t % 60));
+        nodes = made_of(text, t, VAULT_FORM_MINUTES, nodes);
+    }
+    for (uint64_t t = 1 * 3600; t < 10 * 3600; t++) {
+        snprintf(text, sizeof text, "%d:%02d:%02d", (int)(t / 3600), (int)(t / 60 % 60), (int)(t % 60));
+        nodes = made_of(text, t, VAULT_FORM_HOURS, nodes);
+    }
+    check(nodes == BEGINNINGS, "the beginnings of all running times", (long)nodes);
+}
+
+/* Each beginning behind this one, with each byte more. The text has room for two bytes more than the longest time. */
+static void a_byte_more(const struct beginning *b, char *text, size_t n)
+{
+    int good = 1, wrong = 0;
+    for (int byte = 0; byte < 256; byte++) {
+        text[n] = (char)byte;
+        if (!alike(vault_read_time(text, n + 1), told((const uint8_t *)text, n + 1))) {
+            good = 0;
+            wrong = byte;
+        }
+    }
+    text[n] = '\0';
+    check(good, text, wrong);
+    for (size_t i = 0; i < 11; i++)
+        if (b->longer[i] != 0) {
+            text[n] = (char)('0' + i);
+            a_byte_more(beginnings + b->longer[i], text, n + 1);
+        }
+}
+
+/* A text, and each of its beginnings with the rest standing behind it: that is not lent, and may not count. */
+static void each_end(const char *text)
+{
+    int good = 1;
+    size_t n = strlen(text);
+    for (size_t k = 0; k <= n; k++)
+        good = good && alike(vault_read_time(text, k), told((const uint8_t *)text, k));
+    check(good, text, (long)n);
+}
+
+/* Numbers in their range and beyond it, with two digits or as many as they need. */
+static void ranges(void)
+{
+    static const char *const forms[] = {"%d:%02d", "%d:%d", "%02d:%02d"};
+    static const char *const longer[] = {"%d:%02d:%02d", "%d:%02d:%d", "%d:%d:%02d", "%02d:%02d:%02d"};
+    static const int hours[] = {0, 1, 2, 3, 4, 5, 6, 7, 8, 9, 10, 11, 12, 60, 99, 100, 599, 600};
+    char text[48];
+    for (size_t f = 0; f < sizeof forms / sizeof *forms; f++)
+        for (int m = 0; m < 1010; m++)
+            for (int s = 0; s < 101; s++) {
+                snprintf(text, sizeof text, forms[f], m, s);
+                each_end(text);
+            }
+    for (size_t f = 0; f < sizeof longer / sizeof *longer; f++)
+        for (size_t h = 0; h < sizeof hours / sizeof *hours; h++)
+            for (int t = 0; t < 101 * 101; t++) {
+                snprintf(text, sizeof text, longer[f], hours[h], t / 101, t % 101);
+                each_end(text);
+            }
+}
+
 static void times(void)
 {
+    char text[16];
     readable_times();
     faulty_times();
     lengths_of_times();
+    grow();
+    check(alike(vault_read_time("", 0), told((const uint8_t *)"", 0)), "an empty text", 0);
+    a_byte_more(beginnings, text, 0);
+    ranges();
 }
 
 /* ---- PLA texts */
