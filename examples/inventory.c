@@ -3,8 +3,8 @@
        inventory SHEET MARKS MOVEMENTS
 
    Line 1 of MOVEMENTS is `night N`. Then each line is a movement, `in P`, `out P`, `recv P T` or `gone P T`, with one space between parts: P has a
-   character 0 or 1 for each of the MARKS marks, the highest first, and T is a running time such as 12:30. A movement that is refused is printed
-   with its line and the cause, and the rest go on.
+   character 0 or 1 for each of the MARKS marks, the highest first, and T is a running time, in minutes such as 90:00 or in hours such as 1:30:00. A
+   movement that is refused is printed with its line and the cause, and the rest go on. Times are printed in minutes.
 
    Nights are numbered from 1, and each is made once. SHEET has the number of the last night made and the sheet's stored form in one file, which is
    replaced as a whole: written beside it, brought to the disk, renamed. So the night is made or not made, wherever a power cut comes, and can be
@@ -234,7 +234,7 @@ static uint64_t movement(struct vault_sheet *s, struct text line)
     uint64_t c = combination(part[1], vault_sheet_marks(s));
     if (parts == 2)
         return is(part[0], "in") ? vault_sheet_enter(s, c).answer : is(part[0], "out") ? vault_sheet_leave(s, c).answer : VAULT_UNREADABLE;
-    struct vault_reply time = vault_read_time(part[2].start, part[2].size);
+    struct vault_time time = vault_read_time(part[2].start, part[2].size); /* in either form: seconds are seconds */
     if (time.answer != VAULT_DONE)
         return time.answer;
     if (is(part[0], "recv"))

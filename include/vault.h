@@ -22,10 +22,11 @@
  * behind what was written stays as it was. An area that always suffices has VAULT_FORM_SIZE bytes for a stored form, VAULT_LIST_SIZE bytes for
  * a list, and VAULT_PLA_SIZE bytes for a PLA text that is written.
  *
- * Replies. Every entry returns an answer, a place and a value. The place is 0 for every answer but VAULT_UNREADABLE; the value is 0 for every
- * answer but VAULT_DONE. Every answer but VAULT_DONE is a refusal, and leaves every byte of every area as it was. If there are several
- * reasons to refuse, the first in this order is answered: what reading the sheet answers, then what the call answers, in the order in which
- * the entry below names them, then VAULT_ROOM. (vault_open reads no sheet, and vault_read_pla reads a text in its place.)
+ * Replies. Every entry but vault_read_time returns a struct vault_reply: an answer, a place and a value. vault_read_time returns a struct vault_time,
+ * which has these three in front, under the same rules, and a form behind them. The place is 0 for every answer but VAULT_UNREADABLE; the value is 0
+ * for every answer but VAULT_DONE, and so is the form. Every answer but VAULT_DONE is a refusal, and leaves every byte of every area as it was. If
+ * there are several reasons to refuse, the first in this order is answered: what reading the sheet answers, then what the call answers, in the
+ * order in which the entry below names them, then VAULT_ROOM. (vault_open reads no sheet, and vault_read_pla reads a text in its place.)
  *
  * Reading a sheet answers, before anything else,
  *     VAULT_UNREADABLE  with place 0, if there is no byte
@@ -48,8 +49,8 @@ extern "C" {
 #endif
 
 /* The version, as three numbers and as text with dots between. The three lines are its one source: Makefile and vault.pc take it from here. */
-#define VAULT_VERSION_MAJOR 1
-#define VAULT_VERSION_MINOR 1
+#define VAULT_VERSION_MAJOR 2
+#define VAULT_VERSION_MINOR 0
 #define VAULT_VERSION_PATCH 0
 #define VAULT_DOTTED(a, b, c) #a "." #b "." #c
 #define VAULT_DOTTED_VALUES(a, b, c) VAULT_DOTTED(a, b, c)
@@ -70,11 +71,18 @@ enum vault_answer {
     VAULT_UNREADABLE = 10  /* text or stored bytes not readable; the place goes with it */
 };
 
+/* The forms of a running time. (VAULT_FORM_SIZE, below, is of a sheet's stored form.) */
+enum vault_form {
+    VAULT_FORM_NONE = 0,    /* refused */
+    VAULT_FORM_MINUTES = 1, /* M:SS, such as 90:00 */
+    VAULT_FORM_HOURS = 2    /* H:MM:SS, such as 1:30:00 */
+};
+
 /* The limits. */
 #define VAULT_MOST_MARKS 5
 #define VAULT_MOST_COMBINATIONS 32
 #define VAULT_MOST_LINES 243
-#define VAULT_MOST_AMOUNT 35999      /* seconds of one receipt or withdrawal: 599:59 */
+#define VAULT_MOST_AMOUNT 35999      /* seconds of one receipt or withdrawal: 599:59, or 9:59:59, the most of either form */
 #define VAULT_MOST_HELD 4000000000u  /* seconds of a sheet */
 
 /* Room that always suffices: for a stored form, 5 + 6 * 32 bytes, for a list, and for a PLA text that is written, of 16 cubes of five marks. */
@@ -90,6 +98,14 @@ struct vault_reply {
     uint64_t answer; /* an enum vault_answer */
     uint64_t place;  /* 0 but for VAULT_UNREADABLE */
     uint64_t value;  /* 0 when refused */
+};
+
+/* The reply of vault_read_time. */
+struct vault_time {
+    uint64_t answer; /* VAULT_DONE or VAULT_UNREADABLE */
+    uint64_t place;  /* 0 but for VAULT_UNREADABLE */
+    uint64_t value;  /* the seconds; 0 when refused */
+    uint64_t form;   /* an enum vault_form */
 };
 
 /*
@@ -162,11 +178,17 @@ struct vault_reply vault_held(const uint8_t *sheet, size_t sheet_size, uint64_t 
 struct vault_reply vault_before(const uint8_t *first, size_t first_size, const uint8_t *second, size_t second_size);
 
 /*
- * Reads a running time: minutes 0 to 599 without a needless zero in front, a colon, two digits of seconds 00 to 59, and nothing else. The text is
- * lent as const void *, so that a char * is passed as it is. Value: the seconds, 0 to 35,999.
- * Refused: VAULT_UNREADABLE, with the length of the longest beginning of the text that some readable text begins with too.
+ * Reads a running time, which is written in one of two forms, and nothing else:
+ *
+ *     M:SS       minutes 0 to 599 without a needless zero in front, a colon, two digits of seconds 00 to 59
+ *     H:MM:SS    hours, one digit 1 to 9, a colon, two digits of minutes 00 to 59, a colon, two digits of seconds 00 to 59
+ *
+ * The text is lent as const void *, so that a char * is passed as it is. Value: the seconds, 0 to 35,999. Form: VAULT_FORM_MINUTES or
+ * VAULT_FORM_HOURS, the one that was met; no text has both. So 90:00 and 1:30:00 are 5,400 seconds each, and 1:30 is 90.
+ * Refused: VAULT_UNREADABLE, with the length of the longest beginning of the text that some readable text, of either form, begins with too. So the
+ * place is 5 in 1:30: and in 10:00:00, 4 in 0:00:00, and 2 in 1:60:00.
  */
-struct vault_reply vault_read_time(const void *text, size_t text_size);
+struct vault_time vault_read_time(const void *text, size_t text_size);
 
 /*
  * PLA texts. A class can be drawn as a Berkeley PLA text of one output, such as

@@ -1,6 +1,6 @@
 /* Every entry at its limits, through vault.h: each answer that it can give, areas of every length around the one that is needed, empty areas with
-   a null pointer and without, numbers above 2^32, guard bytes around what is lent, the known sheets, PLA texts line by line and byte by byte, and
-   calls from threads with small stacks.
+   a null pointer and without, numbers above 2^32, guard bytes around what is lent, the known sheets, every beginning of a running time with every byte
+   behind it, PLA texts line by line and byte by byte, and calls from threads with small stacks.
    Prints what failed and the number of checks; the exit status is 0 only if none failed. */
 #define _POSIX_C_SOURCE 200809L
 #include "vault.h"
@@ -331,22 +331,283 @@ static void comparing(void)
     check(is(vault_before(NULL, 0, NULL, 0), 0, 0, 0) && is(vault_before(a, 0, NULL, 0), 0, 0, 0), "two empty lists", 0);
 }
 
+/* ---- running times */
+
+static int alike(struct vault_time a, struct vault_time b)
+{
+    return a.answer == b.answer && a.place == b.place && a.value == b.value && a.form == b.form;
+}
+
+/* A text between guard bytes is read so, and stays. */
+static void reads(const char *text, size_t n, struct vault_time want)
+{
+    struct area *a = lent(n);
+    memcpy(a->p, text, n);
+    check(alike(vault_read_time(a->p, n), want) && holds(a, (const uint8_t *)text, n), text, (long)n);
+}
+
+struct time {
+    const char *text;
+    struct vault_time want;
+};
+
+static void texts_of_times(const struct time *t, size_t n)
+{
+    for (size_t i = 0; i < n; i++)
+        reads(t[i].text, strlen(t[i].text), t[i].want);
+}
+
+#define TIMES(rows) texts_of_times(rows, sizeof rows / sizeof *rows)
+
+static void readable_times(void)
+{
+    static const struct time t[] = {
+        {"0:00", {0, 0, 0, 1}},        {"0:01", {0, 0, 1, 1}},        {"0:59", {0, 0, 59, 1}},       {"1:00", {0, 0, 60, 1}},
+        {"1:30", {0, 0, 90, 1}},       {"9:07", {0, 0, 547, 1}},      {"9:59", {0, 0, 599, 1}},      {"10:00", {0, 0, 600, 1}},
+        {"59:59", {0, 0, 3599, 1}},    {"60:00", {0, 0, 3600, 1}},    {"90:00", {0, 0, 5400, 1}},    {"99:59", {0, 0, 5999, 1}},
+        {"100:00", {0, 0, 6000, 1}},   {"599:59", {0, 0, 35999, 1}},  {"1:00:00", {0, 0, 3600, 2}},  {"1:00:01", {0, 0, 3601, 2}},
+        {"1:01:00", {0, 0, 3660, 2}},  {"1:30:00", {0, 0, 5400, 2}},  {"1:30:59", {0, 0, 5459, 2}},  {"2:03:04", {0, 0, 7384, 2}},
+        {"5:59:59", {0, 0, 21599, 2}}, {"6:00:00", {0, 0, 21600, 2}}, {"9:00:00", {0, 0, 32400, 2}}, {"9:59:59", {0, 0, 35999, 2}},
+    };
+    TIMES(t);
+}
+
+static void faulty_times(void)
+{
+    static const struct time t[] = {
+        /* minutes and seconds */
+        {"", {10, 0, 0, 0}},
+        {"5", {10, 1, 0, 0}},
+        {"599", {10, 3, 0, 0}},
+        {"5:", {10, 2, 0, 0}},
+        {"1:3", {10, 3, 0, 0}},
+        {"12:3", {10, 4, 0, 0}},
+        {"5:6", {10, 2, 0, 0}},
+        {"5:60", {10, 2, 0, 0}},
+        {"5:599", {10, 4, 0, 0}},
+        {"600:00", {10, 2, 0, 0}},
+        {"6000:00", {10, 2, 0, 0}},
+        {"5990:00", {10, 3, 0, 0}},
+        {"1000:00", {10, 3, 0, 0}},
+        {"012:30", {10, 1, 0, 0}},
+        {"00:00", {10, 1, 0, 0}},
+        {":30", {10, 0, 0, 0}},
+        {"5::59", {10, 2, 0, 0}},
+        /* hours: cut, a number too large, a digit too many or too few */
+        {"1:30:", {10, 5, 0, 0}},
+        {"1:30:0", {10, 6, 0, 0}},
+        {"1:30:5", {10, 6, 0, 0}},
+        {"1:30:6", {10, 5, 0, 0}},
+        {"1:30:60", {10, 5, 0, 0}},
+        {"1:30:99", {10, 5, 0, 0}},
+        {"1:60:00", {10, 2, 0, 0}},
+        {"1:99:00", {10, 2, 0, 0}},
+        {"1:5:00", {10, 3, 0, 0}},
+        {"1:300:00", {10, 4, 0, 0}},
+        {"1:00:000", {10, 7, 0, 0}},
+        {"1:00:00:", {10, 7, 0, 0}},
+        {"1:00:00:00", {10, 7, 0, 0}},
+        /* hours that are not 1 to 9: as far as minutes go */
+        {"0:00:00", {10, 4, 0, 0}},
+        {"0:59:59", {10, 4, 0, 0}},
+        {"00:00:00", {10, 1, 0, 0}},
+        {"01:00:00", {10, 1, 0, 0}},
+        {"10:00:", {10, 5, 0, 0}},
+        {"10:00:00", {10, 5, 0, 0}},
+        {"12:30:00", {10, 5, 0, 0}},
+        {"99:59:59", {10, 5, 0, 0}},
+        {"100:00:00", {10, 6, 0, 0}},
+        {"599:59:59", {10, 6, 0, 0}},
+        {"600:00:00", {10, 2, 0, 0}},
+        {":00:00", {10, 0, 0, 0}},
+        /* two colons in a row */
+        {"::", {10, 0, 0, 0}},
+        {"1::", {10, 2, 0, 0}},
+        {"1::00:00", {10, 2, 0, 0}},
+        {"1:30::00", {10, 5, 0, 0}},
+        {"1:30:00::", {10, 7, 0, 0}},
+        /* spaces, signs, other bytes */
+        {" 5:59", {10, 0, 0, 0}},
+        {"5 :59", {10, 1, 0, 0}},
+        {"5:59\n", {10, 4, 0, 0}},
+        {"5:5x", {10, 3, 0, 0}},
+        {" 1:30:00", {10, 0, 0, 0}},
+        {"1 :30:00", {10, 1, 0, 0}},
+        {"1: 30:00", {10, 2, 0, 0}},
+        {"1:30 :00", {10, 4, 0, 0}},
+        {"1:30: 00", {10, 5, 0, 0}},
+        {"1:30:0 ", {10, 6, 0, 0}},
+        {"1:30:00 ", {10, 7, 0, 0}},
+        {"1:30:00\n", {10, 7, 0, 0}},
+        {"1:30:00\r", {10, 7, 0, 0}},
+        {"-5:59", {10, 0, 0, 0}},
+        {"5:-1", {10, 2, 0, 0}},
+        {"+1:30:00", {10, 0, 0, 0}},
+        {"-1:30:00", {10, 0, 0, 0}},
+        {"1:+3:00", {10, 2, 0, 0}},
+        {"1:-3:00", {10, 2, 0, 0}},
+        {"1:30:+1", {10, 5, 0, 0}},
+        {"1:30:-1", {10, 5, 0, 0}},
+        {"1.30.00", {10, 1, 0, 0}},
+        {"1:30.00", {10, 4, 0, 0}},
+        {"1:30;00", {10, 4, 0, 0}},
+        {"1:30/00", {10, 4, 0, 0}},
+        {"1:30:/0", {10, 5, 0, 0}},
+        {"1h30:00", {10, 1, 0, 0}},
+        {"l:30:00", {10, 0, 0, 0}},
+        {"1:3O:00", {10, 3, 0, 0}},
+        /* bytes that are not ASCII: those of a time with the high bit on, digits of other scripts, a wide colon, a byte-order mark */
+        {"\xb1:30:00", {10, 0, 0, 0}},
+        {"1\xba" "30:00", {10, 1, 0, 0}},
+        {"1:\xb3" "0:00", {10, 2, 0, 0}},
+        {"1:30\xba" "00", {10, 4, 0, 0}},
+        {"1:30:0\xb0", {10, 6, 0, 0}},
+        {"1:30:00\xa0", {10, 7, 0, 0}},
+        {"\xd9\xa1:30:00", {10, 0, 0, 0}},
+        {"1:3\xd9\xa0:00", {10, 3, 0, 0}},
+        {"1\xef\xbc\x9a" "30:00", {10, 1, 0, 0}},
+        {"\xef\xbb\xbf" "1:30:00", {10, 0, 0, 0}},
+    };
+    TIMES(t);
+}
+
+/* The length counts, and nothing else: zero bytes, and lengths of which the low bits are those of a readable text. */
+static void lengths_of_times(void)
+{
+    static const struct vault_time minutes = {VAULT_DONE, 0, 90, VAULT_FORM_MINUTES};
+    static char text[(1 << 16) + 8];
+    check(alike(vault_read_time(NULL, 0), (struct vault_time){VAULT_UNREADABLE, 0, 0, VAULT_FORM_NONE}), "no text", 0);
+    reads("1:30:00", 4, minutes);
+    reads("1:30:00", 5, (struct vault_time){VAULT_UNREADABLE, 5, 0, VAULT_FORM_NONE});
+    reads("1:30\0", 4, minutes);
+    reads("1:30\0", 5, (struct vault_time){VAULT_UNREADABLE, 4, 0, VAULT_FORM_NONE});
+    reads("5:5\0", 4, (struct vault_time){VAULT_UNREADABLE, 3, 0, VAULT_FORM_NONE});
+    reads("\0" "1:30", 5, (struct vault_time){VAULT_UNREADABLE, 0, 0, VAULT_FORM_NONE});
+    reads("1:30\0" "00", 7, (struct vault_time){VAULT_UNREADABLE, 4, 0, VAULT_FORM_NONE});
+    reads("1:30:\0" "0", 7, (struct vault_time){VAULT_UNREADABLE, 5, 0, VAULT_FORM_NONE});
+    reads("1:30:00\0", 8, (struct vault_time){VAULT_UNREADABLE, 7, 0, VAULT_FORM_NONE});
+    for (size_t i = 0; i < 5; i++) {
+        static const uint64_t place[] = {1, 3, 3, 2, 0};
+        memset(text, "0156:"[i], ROOM);
+        reads(text, ROOM, (struct vault_time){VAULT_UNREADABLE, place[i], 0, VAULT_FORM_NONE});
+    }
+    memset(text, '0', sizeof text);
+    memcpy(text, "1:30:00", 7);
+    for (size_t high = 1 << 8; high <= 1 << 16; high <<= 8)
+        for (size_t n = high; n <= high + 7; n++)
+            check(alike(vault_read_time(text, n), (struct vault_time){VAULT_UNREADABLE, 7, 0, VAULT_FORM_NONE}), "a long text", (long)n);
+}
+
+/* All the readable texts there are, put one after another into a tree whose nodes are their beginnings. */
+enum { BEGINNINGS = 76981 };
+
+static struct beginning {
+    uint32_t longer[11]; /* the beginning with a byte more, one of 0 to 9 and the colon, which is the next byte; 0: none */
+    uint64_t value, form; /* of the text itself; form 0: it is a beginning only */
+} beginnings[BEGINNINGS];
+
+/* Reads by the tree: as far as there is a longer beginning. */
+static struct vault_time told(const uint8_t *text, size_t n)
+{
+    const struct beginning *b = beginnings;
+    size_t k = 0;
+    for (; k < n && text[k] >= '0' && text[k] <= ':' && b->longer[text[k] - '0'] != 0; k++)
+        b = beginnings + b->longer[text[k] - '0'];
+    if (k < n || b->form == VAULT_FORM_NONE)
+        return (struct vault_time){VAULT_UNREADABLE, k, 0, VAULT_FORM_NONE};
+    return (struct vault_time){VAULT_DONE, 0, b->value, b->form};
+}
+
+static uint32_t made_of(const char *text, uint64_t value, uint64_t form, uint32_t nodes)
+{
+    struct beginning *b = beginnings;
+    for (; *text != '\0'; text++) {
+        uint32_t *longer = &b->longer[*text - '0'];
+        if (*longer == 0 && nodes < BEGINNINGS)
+            *longer = nodes++;
+        b = beginnings + *longer;
+    }
+    b->value = value;
+    b->form = form;
+    return nodes;
+}
+
+static void grow(void)
+{
+    char text[32];
+    uint32_t nodes = 1;
+    for (uint64_t t = 0; t < 600 * 60; t++) {
+        snprintf(text, sizeof text, "%d:%02d", (int)(t / 60), (int)(t % 60));
+        nodes = made_of(text, t, VAULT_FORM_MINUTES, nodes);
+    }
+    for (uint64_t t = 1 * 3600; t < 10 * 3600; t++) {
+        snprintf(text, sizeof text, "%d:%02d:%02d", (int)(t / 3600), (int)(t / 60 % 60), (int)(t % 60));
+        nodes = made_of(text, t, VAULT_FORM_HOURS, nodes);
+    }
+    check(nodes == BEGINNINGS, "the beginnings of all running times", (long)nodes);
+}
+
+/* Each beginning behind this one, with each byte more. The text has room for two bytes more than the longest time. */
+static void a_byte_more(const struct beginning *b, char *text, size_t n)
+{
+    int good = 1, wrong = 0;
+    for (int byte = 0; byte < 256; byte++) {
+        text[n] = (char)byte;
+        if (!alike(vault_read_time(text, n + 1), told((const uint8_t *)text, n + 1))) {
+            good = 0;
+            wrong = byte;
+        }
+    }
+    text[n] = '\0';
+    check(good, text, wrong);
+    for (size_t i = 0; i < 11; i++)
+        if (b->longer[i] != 0) {
+            text[n] = (char)('0' + i);
+            a_byte_more(beginnings + b->longer[i], text, n + 1);
+        }
+}
+
+/* A text, and each of its beginnings with the rest standing behind it: that is not lent, and may not count. */
+static void each_end(const char *text)
+{
+    int good = 1;
+    size_t n = strlen(text);
+    for (size_t k = 0; k <= n; k++)
+        good = good && alike(vault_read_time(text, k), told((const uint8_t *)text, k));
+    check(good, text, (long)n);
+}
+
+/* Numbers in their range and beyond it, with two digits or as many as they need. */
+static void ranges(void)
+{
+    static const char *const forms[] = {"%d:%02d", "%d:%d", "%02d:%02d"};
+    static const char *const longer[] = {"%d:%02d:%02d", "%d:%02d:%d", "%d:%d:%02d", "%02d:%02d:%02d"};
+    static const int hours[] = {0, 1, 2, 3, 4, 5, 6, 7, 8, 9, 10, 11, 12, 60, 99, 100, 599, 600};
+    char text[48];
+    for (size_t f = 0; f < sizeof forms / sizeof *forms; f++)
+        for (int m = 0; m < 1010; m++)
+            for (int s = 0; s < 101; s++) {
+                snprintf(text, sizeof text, forms[f], m, s);
+                each_end(text);
+            }
+    for (size_t f = 0; f < sizeof longer / sizeof *longer; f++)
+        for (size_t h = 0; h < sizeof hours / sizeof *hours; h++)
+            for (int t = 0; t < 101 * 101; t++) {
+                snprintf(text, sizeof text, longer[f], hours[h], t / 101, t % 101);
+                each_end(text);
+            }
+}
+
 static void times(void)
 {
-    static const struct {
-        const char *text;
-        uint64_t answer, place, value;
-    } t[] = {
-        {"0:00", 0, 0, 0},     {"0:59", 0, 0, 59},    {"1:00", 0, 0, 60},    {"9:07", 0, 0, 547},   {"59:59", 0, 0, 3599}, {"100:00", 0, 0, 6000},
-        {"599:59", 0, 0, 35999}, {"600:00", 10, 2, 0},  {"60:00", 0, 0, 3600}, {"6000:00", 10, 2, 0}, {"12:3", 10, 4, 0},    {"012:30", 10, 1, 0},
-        {"00:00", 10, 1, 0},   {"", 10, 0, 0},        {":30", 10, 0, 0},     {"5", 10, 1, 0},       {"5:", 10, 2, 0},      {"5:6", 10, 2, 0},
-        {"5:60", 10, 2, 0},    {"5:5x", 10, 3, 0},    {"5:599", 10, 4, 0},   {"5:59\n", 10, 4, 0},  {" 5:59", 10, 0, 0},   {"-5:59", 10, 0, 0},
-        {"5 :59", 10, 1, 0},   {"5:-1", 10, 2, 0},    {"599", 10, 3, 0},     {"5990:00", 10, 3, 0}, {"1000:00", 10, 3, 0}, {"5::59", 10, 2, 0},
-    };
-    for (size_t i = 0; i < sizeof t / sizeof *t; i++)
-        check(is(vault_read_time(t[i].text, strlen(t[i].text)), t[i].answer, t[i].place, t[i].value), t[i].text, (long)i);
-    check(is(vault_read_time(NULL, 0), VAULT_UNREADABLE, 0, 0), "no text", 0);
-    check(is(vault_read_time("5:5\0", 4), VAULT_UNREADABLE, 3, 0), "a zero byte", 0);
+    char text[16];
+    readable_times();
+    faulty_times();
+    lengths_of_times();
+    grow();
+    check(alike(vault_read_time("", 0), told((const uint8_t *)"", 0)), "an empty text", 0);
+    a_byte_more(beginnings, text, 0);
+    ranges();
 }
 
 /* ---- PLA texts */
@@ -871,6 +1132,8 @@ static void *night(void *arg)
                  vault_total(form[now], n).value != total;
         r = vault_write_pla(form[now], n, text, sizeof text);
         wrong += r.answer != VAULT_DONE || vault_read_pla(text, (size_t)r.value, form[!now], VAULT_FORM_SIZE).value != 5 + size;
+        struct vault_time time = seed % 2 ? vault_read_time("1:30:00", 7) : vault_read_time("90:00", 5);
+        wrong += time.answer != VAULT_DONE || time.value != 5400 || time.form != (seed % 2 ? VAULT_FORM_HOURS : VAULT_FORM_MINUTES);
     }
     return (void *)(size_t)wrong;
 }

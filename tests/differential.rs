@@ -9,7 +9,7 @@
 mod model;
 mod random;
 
-use model::{cube, done, is_before, pla, read_pla, refused, Lists, Reply, Sheet, Times, MOST_AMOUNT, MOST_HELD};
+use model::{cube, done, is_before, pla, read_pla, refused, Lists, Reply, Sheet, Times, HOURS, MINUTES, MOST_AMOUNT, MOST_HELD};
 use random::Random;
 use std::io::{Read, Write};
 use std::process::{Child, Command, Stdio};
@@ -309,13 +309,37 @@ impl Tests {
         self.telling(11, [0, 0], vec![first, second], reply)
     }
 
+    /// A running time in either form, or one that misses its form by a number that is too small, too large, or has a digit too many or too few.
+    fn time(&mut self) -> String {
+        let minutes = self.r.of(&[0, 1, 5, 9, 10, 59, 60, 99, 100, 598, 599]);
+        let minutes = if self.r.one_in(2) { minutes } else { self.r.below(600) };
+        let any = (1 + self.r.below(9), self.r.below(60), self.r.below(60));
+        let (hours, part, seconds) = if self.r.one_in(4) { self.r.of(&[(1, 0, 0), (1, 59, 59), (9, 0, 0), (9, 59, 59)]) } else { any };
+        let beyond = self.r.of(&[60, 61, 66, 69, 70, 90, 99, 100, 599, 600]);
+        match self.r.below(26) {
+            0..=6 => format!("{minutes}:{seconds:02}"),
+            7..=13 => format!("{hours}:{part:02}:{seconds:02}"),
+            14 => format!("{}:{seconds:02}", self.r.of(&[600, 601, 660, 700, 999, 1000, 1234, 5990, 65_536])),
+            15 => format!("{minutes}:{beyond}"),
+            16 => format!("{minutes}:{}", seconds % 10),
+            17 => format!("0{minutes}:{seconds:02}"),
+            18 => format!("{}:{part:02}:{seconds:02}", self.r.of(&[0, 0, 10, 10, 11, 12, 59, 60, 99, 100, 599, 600])),
+            19 => format!("{hours}:{beyond}:{seconds:02}"),
+            20 => format!("{hours}:{part:02}:{beyond}"),
+            21 => format!("0{hours}:{part:02}:{seconds:02}"),
+            22 => format!("{hours}:{}:{seconds:02}", part % 10),
+            23 => format!("{hours}:{part:02}:{}", seconds % 10),
+            24 => format!("{hours}:{part:02}:{seconds:02}:{seconds:02}"),
+            _ => self.r.of(&["1:30:", "1::30", "1:30::00", "1::30:00", ":30:00", "1:30:00:", "0:00:00", "0:00"]).to_string(),
+        }
+    }
+
     fn read_time(&mut self) -> Call {
-        let minutes = self.r.of(&[0, 5, 9, 10, 59, 60, 99, 100, 598, 599, 600, 999, 1234]);
-        let minutes = if self.r.one_in(2) { minutes } else { self.r.below(700) };
-        let mut text = format!("{}:{:02}", minutes, self.r.below(64)).into_bytes();
-        for _ in 0..self.r.below(3) {
+        let mut text = self.time().into_bytes();
+        let spoiled = self.r.of(&[0, 0, 0, 1, 1, 2]);
+        for _ in 0..spoiled {
             let i = self.r.below(text.len() as u64 + 1) as usize;
-            let c = self.r.of(b"0123456789::  -/;\n\0\xff");
+            let c = self.r.of(b"0123456789:::  +-./;\n\0\xb0\xba\xff");
             match self.r.below(5) {
                 0 => text.truncate(i),
                 1 if i < text.len() => text[i] = c,
@@ -326,9 +350,20 @@ impl Tests {
                 _ => text.push(c),
             }
         }
-        if self.r.one_in(50) {
-            let n = self.r.below(300);
-            text = self.r.bytes(n);
+        match self.r.below(24) {
+            0 => {
+                let n = self.r.of(&[1, 2, 4, 7, 20, 249, 252, 256, 300, 5000]);
+                text.extend((0..n).map(|_| self.r.of(b"0123456789:::")));
+            }
+            1 => {
+                let n = self.r.below(12);
+                text = (0..n).map(|_| self.r.of(b"0123456789::::")).collect();
+            }
+            2 => {
+                let n = self.r.below(300);
+                text = self.r.bytes(n);
+            }
+            _ => {}
         }
         let reply = self.times.read(&text);
         self.telling(12, [0, 0], vec![text], reply)
@@ -508,9 +543,10 @@ impl Tests {
     }
 
     fn call(&mut self) -> Call {
-        match self.r.below(36) {
+        match self.r.below(40) {
             26..=32 => self.read_pla(),
             33..=35 => self.write_pla(),
+            36..=39 => self.read_time(),
             0 => self.open(),
             1..=3 => self.change(1),
             4..=6 => self.change(2),
@@ -565,7 +601,7 @@ fn taken(call: &Call, bytes: &mut &[u8]) -> Option<(Reply, Vec<Vec<u8>>)> {
         Some(front.to_vec())
     };
     let mut number = || Some(u64::from_le_bytes(take(8)?.try_into().ok()?));
-    let reply = Reply { answer: number()?, place: number()?, value: number()? };
+    let reply = Reply { answer: number()?, place: number()?, value: number()?, form: number()? };
     let later: Option<Vec<_>> = call.later.iter().map(|all| take(all.len())).collect();
     Some((reply, later?))
 }
@@ -599,6 +635,7 @@ fn main() {
         tests.pool.push(sheet);
     }
     let mut counts = [[0u64; 11]; NAMES.len()];
+    let mut forms = [0u64; 3];
     let mut made = 0;
     let (mut sheets, classes) = (every_class(), every_class().count() as u64);
     while made < 3 * classes + calls {
@@ -623,6 +660,7 @@ fn main() {
                 stop(&format!("call {made}, vault_{}, differs\n{call:x?}\ngot {got:x?}", NAMES[call.entry]));
             }
             counts[call.entry][call.reply.answer as usize] += 1;
+            forms[call.reply.form as usize] += 1;
         }
         if !rest.is_empty() {
             stop("the program says more than was asked");
@@ -636,5 +674,6 @@ fn main() {
         let given: Vec<String> = (0..11).filter(|&a| answers[a] > 0).map(|a| format!("{a}: {}", answers[a])).collect();
         println!("vault_{name:<11}{:>7} calls, by answer {}", answers.iter().sum::<u64>(), given.join(", "));
     }
+    println!("running times that were read: {} in minutes, {} in hours", forms[MINUTES as usize], forms[HOURS as usize]);
     println!("differential: lists and PLA texts of all {classes} classes of up to four marks, and {calls} random calls compared, no difference (seed {seed})");
 }

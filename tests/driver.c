@@ -4,8 +4,8 @@
 
    A batch is a length in 4 bytes and that many bytes of requests; the answer to it is a length in 4 bytes and that many bytes of replies.
    A request: which entry (1 byte), two numbers (8 bytes each), then each area: 1 if it is null (1 byte), how many bytes stand before it, in it and
-   behind it (2 bytes each), and all these bytes. A reply: answer, place, value (8 bytes each), then all the bytes of each area as they are now.
-   Numbers have their low byte first. */
+   behind it (2 bytes each), and all these bytes. A reply: answer, place, value, form (8 bytes each; 0 for an entry without form), then all the bytes of each
+   area as they are now. Numbers have their low byte first. */
 #define _DEFAULT_SOURCE
 #include "vault.h"
 #include <stdio.h>
@@ -87,6 +87,7 @@ static uint8_t *put(uint8_t *to, uint64_t x, size_t n)
 static uint8_t *call(uint8_t *to, struct area *s, struct area *t)
 {
     struct vault_reply r = {99, 99, 99};
+    struct vault_time time = {99, 99, 99, 0};
     int entry = (int)number(1);
     uint64_t x = number(8), y = number(8);
     int areas = entry == 0 || (entry > 6 && entry < 11) || entry == 12 ? 1 : 2;
@@ -106,12 +107,15 @@ static uint8_t *call(uint8_t *to, struct area *s, struct area *t)
     case 9: r = vault_outside(s->p, s->n, x); break;
     case 10: r = vault_held(s->p, s->n, x); break;
     case 11: r = vault_before(s->p, s->n, t->p, t->n); break;
-    case 12: r = vault_read_time(s->p, s->n); break;
+    case 12:
+        time = vault_read_time(s->p, s->n);
+        r = (struct vault_reply){time.answer, time.place, time.value};
+        break;
     case 13: r = vault_read_pla(s->p, s->n, t->p, t->n); break;
     case 14: r = vault_write_pla(s->p, s->n, t->p, t->n); break;
     default: fail("no such entry");
     }
-    to = put(put(put(to, r.answer, 8), r.place, 8), r.value, 8);
+    to = put(put(put(put(to, r.answer, 8), r.place, 8), r.value, 8), time.form, 8);
     for (int i = 0; i < areas; i++) {
         const struct area *a = i == 0 ? s : t;
         memcpy(to, a->whole, a->all);
@@ -137,7 +141,7 @@ int main(void)
         end = in + n;
         uint8_t *to = out;
         while (at < end) {
-            if ((size_t)(out + sizeof out - to) < 2 * ROOM + 24)
+            if ((size_t)(out + sizeof out - to) < 2 * ROOM + 32)
                 fail("a batch is too long");
             to = call(to, &s, &t);
         }

@@ -18,18 +18,20 @@ pub struct Reply {
     pub answer: u64,
     pub place: u64,
     pub value: u64,
+    /// That of a running time which was read; else 0.
+    pub form: u64,
 }
 
 pub fn done(value: u64) -> Reply {
-    Reply { answer: 0, place: 0, value }
+    Reply { value, ..Reply::default() }
 }
 
 pub fn refused(answer: u64) -> Reply {
-    Reply { answer, place: 0, value: 0 }
+    Reply { answer, ..Reply::default() }
 }
 
 pub fn unreadable(place: usize) -> Reply {
-    Reply { answer: 10, place: place as u64, value: 0 }
+    Reply { place: place as u64, ..refused(10) }
 }
 
 /// Whether line `b` contains combination `c`, by the digits from the lowest mark up.
@@ -240,30 +242,41 @@ impl Lists {
     }
 }
 
-/// All the running times there are, and all their beginnings.
+/// The forms of a running time, and the bytes of the longest.
+pub const MINUTES: u64 = 1;
+pub const HOURS: u64 = 2;
+const LONGEST: usize = "9:59:59".len();
+
+/// All the running times there are, each with what it is read as, and all their beginnings.
 pub struct Times {
-    values: HashMap<Vec<u8>, u64>,
+    replies: HashMap<Vec<u8>, Reply>,
     beginnings: HashSet<Vec<u8>>,
 }
 
 impl Times {
     pub fn new() -> Times {
-        let mut times = Times { values: HashMap::new(), beginnings: HashSet::new() };
-        for t in 0..=MOST_AMOUNT {
-            let text = format!("{}:{:02}", t / 60, t % 60).into_bytes();
-            for n in 0..=text.len() {
-                times.beginnings.insert(text[..n].to_vec());
+        let mut times = Times { replies: HashMap::new(), beginnings: HashSet::new() };
+        let up_to = |most: u64| (0..=most).flat_map(|m| (0..=59).map(move |s| (m, s)));
+        for (m, s) in up_to(599) {
+            times.add(format!("{m}:{s:02}"), 60 * m + s, MINUTES);
+        }
+        for h in 1..=9 {
+            for (m, s) in up_to(59) {
+                times.add(format!("{h}:{m:02}:{s:02}"), 3600 * h + 60 * m + s, HOURS);
             }
-            times.values.insert(text, t);
         }
         times
     }
 
+    fn add(&mut self, text: String, value: u64, form: u64) {
+        let text = text.into_bytes();
+        self.beginnings.extend((0..=text.len()).map(|n| text[..n].to_vec()));
+        assert!(self.replies.insert(text, Reply { form, ..done(value) }).is_none(), "a text is read in one way");
+    }
+
     pub fn read(&self, text: &[u8]) -> Reply {
-        match self.values.get(text) {
-            Some(&t) => done(t),
-            None => unreadable((0..=text.len().min(6)).rev().find(|&n| self.beginnings.contains(&text[..n])).unwrap()),
-        }
+        let place = || (0..=text.len().min(LONGEST)).rev().find(|&n| self.beginnings.contains(&text[..n])).unwrap();
+        self.replies.get(text).copied().unwrap_or_else(|| unreadable(place()))
     }
 }
 

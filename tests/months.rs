@@ -28,6 +28,11 @@ const ODD_MARKS: [&str; 12] = ["marks 0", "marks 6", "marks 9", "marks 22", "mar
 const ODD_LINES: [&str; 16] = ["", " ", "marks 2", "year 2024", "2024-01-01", "2024-01-01 end", "2024-01-01 marks 2", "end ", " end", "END", "in", "2024-01-01 in",
     "2024-13-45 in 2x", "total", "recv 01 1:00 2024-01-01", "a line of more than forty bytes, one of them its last"];
 
+/// Times that are nearly hours, and the most of them.
+#[rustfmt::skip]
+const ODD_HOURS: [&str; 18] = ["0:00:00", "0:30:00", "10:00:00", "1:30:", "1:30:0", "1:30:6", "1:30:60", "1:60:00", "1:3:00", "1:00:000", "1:00:00:", "01:00:00",
+    ":30:00", "1::30:00", "1:30::00", "1:30:00x", "599:59:59", "9:59:59"];
+
 struct Sessions {
     r: Random,
     marks: u64,
@@ -43,10 +48,14 @@ impl Sessions {
     }
 
     fn time(&mut self) -> String {
-        match self.r.below(30) {
+        match self.r.below(32) {
             0 => "0:00".to_string(),
             1 => self.r.of(&["600:00", "1:60", "1:5", "01:05", ":05", "1:05x", "-1:05", "599:59", "0:01"]).to_string(),
-            2..=9 => format!("{}:{:02}", self.r.below(600), self.r.below(60)),
+            2 => self.r.of(&ODD_HOURS).to_string(),
+            3..=7 => format!("{}:{:02}", self.r.below(600), self.r.below(60)),
+            8..=14 => format!("{}:{:02}:{:02}", 1 + self.r.below(9), self.r.below(60), self.r.below(60)),
+            15..=18 => format!("1:00:{:02}", self.r.below(60)),
+            19..=21 => format!("60:{:02}", self.r.below(60)),
             _ => format!("{}:{:02}", self.r.below(3), self.r.below(60)),
         }
     }
