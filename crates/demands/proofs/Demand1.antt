@@ -30,7 +30,7 @@ use Rattle.times.specs.Answers.{readingOf, Answered}
 use Rattle.times.specs.declared.Time.{Time}
 use Rattle.times.specs.declared.Reading.{Reading}
 use Rattle.times.specs.declared.Time.the-variants.{Value as Read-value, Fault}
-use Rattle.vault.specs.Entries.{replied, HoldsNoneBy, Put, ChangesBy, Tells, Lends, Compared, KeptAt, same}
+use Rattle.vault.specs.Entries.{HoldsNoneBy, Put, ChangesBy, Tells, Lends, Compared, KeptAt, same}
 use Rattle.vault.specs.declared.Reply.{Reply}
 use Rattle.demands.specs.Calls.{Told, Lent, nothing, sheet, bytes, ofNumber, ofValue, ofRead, ofReading, ofReply, Made}
 use Rattle.demands.specs.Demand1.{Refuses, Demand1}

@@ -1,7 +1,7 @@
 -- A running time as the definition writes it, in minutes or in hours, and part by part as it is read: the same texts. So a value is at most 35,999.
 use Prim.Native.Nat.{ℕ, _+_, _*_, _≤_}
 use mathlib.Core.Path.{_≡_, refl, sym, ap, _∙_, subst}
-use mathlib.Core.List.{List, [], _∷_, _++_, append-assoc, append-nil}
+use mathlib.Core.List.{List, [], _∷_, _++_, append-nil}
 use native.Mathlib.Omega.{arith}
 use Rattle.ground.specs.Texts.{ascii}
 use Rattle.times.specs.declared.Form.{Form}

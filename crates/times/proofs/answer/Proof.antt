@@ -1,7 +1,7 @@
 -- The cases of what `read` gave, as `readingOf` sets them out.
 use borrow.Author.Needs.{needs}
 use Prim.Native.Nat.{ℕ}
-use mathlib.Core.Path.{_≡_, sym, ap, ap₂, _∙_}
+use mathlib.Core.Path.{sym, ap, ap₂, _∙_}
 use Rattle.times.specs.declared.Reading.{Reading}
 use Rattle.times.specs.Answers.{readingOf}
 use Rattle.times.specs.Parts.{placeOf}
