@@ -12,12 +12,12 @@ use Rattle.lists.proofs.Known.{below, alike, gives, firstIs, known-list}
 use Rattle.lists.proofs.Model.{laying, trying, seeking, fewest}
 use Rattle.times.specs.declared.Time.the-variants.{Value, Fault}
 use Rattle.demands.specs.Known.{Example, sheet, time, Holds, table, Shown}
-use Rattle.times.specs.Texts.{Numeral, minutes}
+use Rattle.times.specs.Texts.{Numeral}
 use Rattle.times.specs.Places.{value}
 use Rattle.times.specs.Parts.{After, no-ones}
 use Rattle.times.proofs.Behinds.{unpaired, after-some}
 use Rattle.times.proofs.Fronts.{SoFar, far-none, far-step, stop-at, colon-at, led-stop, led-on, numeral-digit, numeral-more}
-use Rattle.times.proofs.Words.{as-read}
+use Rattle.times.proofs.Words.{in-minutes, as-read}
 use Rattle.times.specs.declared.Form.the-variants.{Minutes}
 
 -- the digits of two bytes at the front of a text
@@ -35,30 +35,10 @@ nines =
     (omega arith, omega arith) (omega arith)
 
 nought : Holds (time (ascii "0:00") (Value 0 Minutes))
-nought = value (minutes (record {
-  first = ascii "0";
-  m = 0;
-  minutes = numeral-digit 48 (omega arith, omega arith);
-  most = omega arith;
-  last = ascii "00";
-  s = 0;
-  seconds = record { small = omega arith; text = refl };
-  text = refl;
-  total = refl;
-}))
+nought = value (in-minutes (ascii "0") (ascii "00") 0 0 (numeral-digit 48 (omega arith, omega arith)) (omega arith) (record { small = omega arith; text = refl }))
 
 longest : Holds (time (ascii "599:59") (Value 35999 Minutes))
-longest = value (minutes (record {
-  first = ascii "599";
-  m = 599;
-  minutes = nines;
-  most = omega arith;
-  last = ascii "59";
-  s = 59;
-  seconds = record { small = omega arith; text = refl };
-  text = refl;
-  total = refl;
-}))
+longest = value (in-minutes (ascii "599") (ascii "59") 599 59 nines (omega arith) (record { small = omega arith; text = refl }))
 
 too-long : Holds (time (ascii "600:00") (Fault 2))
 too-long =

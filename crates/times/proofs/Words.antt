@@ -15,12 +15,17 @@ use Rattle.times.proofs.Fronts.{numeral-digit, one-digit}
 
 -- two digits and nothing behind them, in the form g
 
-pub last-two : (g : Form) (n : ℕ) {l : List ℕ} {x v : ℕ} → Sixty l x → v ≡ n * 60 + x → Two (Ended g n) l v g
+last-two : (g : Form) (n : ℕ) {l : List ℕ} {x v : ℕ} → Sixty l x → v ≡ n * 60 + x → Two (Ended g n) l v g
 last-two g n {l} {x} s e =
     record { digits = l; x = x; sixty = s; rest = []; text = sym (append-nil l); behind = record { nothing = refl; total = e; form = refl } }
 
 only-two : {g f : Form} {n v : ℕ} {t : List ℕ} (p : Two (Ended g n) t v f) → t ≡ p .digits
 only-two p = p .text ∙ ap (λ (z : List ℕ). p .digits ++ z) (p .behind .nothing) ∙ append-nil (p .digits)
+
+-- a text in minutes, of its parts
+pub in-minutes : (first last : List ℕ) (m s : ℕ) → Numeral first m → m ≤ 599 → Sixty last s → Readable (first ++ ascii ":" ++ last) (m * 60 + s) Minutes
+in-minutes first last m s n h x =
+    minutes (record { first = first; m = m; minutes = n; most = h; last = last; s = s; seconds = x; text = refl; total = refl })
 
 -- part by part
 

@@ -6,7 +6,7 @@ ghost use Rattle.ground.specs.Decides.{Decides};
 ghost use Rattle.times.specs.Texts.{Readable};
 ghost use Rattle.times.specs.Places.{ReadsAs};
 ghost use Rattle.times.specs.Answers.{formNumber, Answered};
-ghost use Rattle.times.specs.Parts.{Follows, Led, Paired, Ended, After, Two, placeOf, placedOn};
+ghost use Rattle.times.specs.Parts.{UpTo, Follows, Led, Paired, Ended, After, Two, placeOf, placedOn};
 ghost use Rattle.times.specs.declared.Form.the-variants.{Hours};
 
 // The form in which a running time is written; NoTime where there is none.
@@ -39,7 +39,7 @@ pub enum Lead {
 
 // Whether c is a digit up to top.
 fn digit(c: u8, top: u8) -> bool
-    ensures { λ r. ⌜ Decides r ((48 ≤ c) × (c ≤ top)) ⌝ }
+    ensures { λ r. ⌜ Decides r (UpTo top c) ⌝ }
 {
     if c < 48 {
         return false;
