@@ -1,7 +1,7 @@
 /* Every entry at its limits, through vault.h: each answer that it can give, areas of every length around the one that is needed, empty areas with
    a null pointer and without, numbers above 2^32, guard bytes around what is lent, the known sheets, every beginning of a running time with every byte
    behind it, PLA texts line by line and byte by byte, and calls from threads with small stacks.
-   Prints what failed and the number of checks; the exit status is 0 only if none failed. */
+   Prints the first that failed and the number of checks; the exit status is 0 only if none failed. */
 #define _POSIX_C_SOURCE 200809L
 #include "vault.h"
 #include <pthread.h>
@@ -15,10 +15,8 @@ static int checks, faults;
 static void check(int good, const char *what, long which)
 {
     checks++;
-    if (!good) {
-        faults++;
+    if (!good && faults++ < 50) /* a fault may show in a million checks */
         printf("FAILED: %s (%ld)\n", what, which);
-    }
 }
 
 static int is(struct vault_reply r, uint64_t answer, uint64_t place, uint64_t value)
@@ -547,7 +545,7 @@ static void grow(void)
     check(nodes == BEGINNINGS, "the beginnings of all running times", (long)nodes);
 }
 
-/* Each beginning behind this one, with each byte more. The text has room for two bytes more than the longest time. */
+/* A beginning, which stands in the text, with each byte behind it; then so every longer one. */
 static void a_byte_more(const struct beginning *b, char *text, size_t n)
 {
     int good = 1, wrong = 0;
