@@ -71,11 +71,11 @@ enum vault_answer {
     VAULT_UNREADABLE = 10  /* text or stored bytes not readable; the place goes with it */
 };
 
-/* The forms of a running time. (VAULT_FORM_SIZE, below, is of a sheet's stored form.) */
+/* The forms of a running time. */
 enum vault_form {
-    VAULT_FORM_NONE = 0,    /* refused */
-    VAULT_FORM_MINUTES = 1, /* M:SS, such as 90:00 */
-    VAULT_FORM_HOURS = 2    /* H:MM:SS, such as 1:30:00 */
+    VAULT_NO_TIME = 0,    /* refused */
+    VAULT_IN_MINUTES = 1, /* M:SS, such as 90:00 */
+    VAULT_IN_HOURS = 2    /* H:MM:SS, such as 1:30:00 */
 };
 
 /* The limits. */
@@ -183,8 +183,8 @@ struct vault_reply vault_before(const uint8_t *first, size_t first_size, const u
  *     M:SS       minutes 0 to 599 without a needless zero in front, a colon, two digits of seconds 00 to 59
  *     H:MM:SS    hours, one digit 1 to 9, a colon, two digits of minutes 00 to 59, a colon, two digits of seconds 00 to 59
  *
- * The text is lent as const void *, so that a char * is passed as it is. Value: the seconds, 0 to 35,999. Form: VAULT_FORM_MINUTES or
- * VAULT_FORM_HOURS, the one that was met; no text has both. So 90:00 and 1:30:00 are 5,400 seconds each, and 1:30 is 90.
+ * The text is lent as const void *, so that a char * is passed as it is. Value: the seconds, 0 to 35,999. Form: VAULT_IN_MINUTES or
+ * VAULT_IN_HOURS, the one that was met; no text has both. So 90:00 and 1:30:00 are 5,400 seconds each, and 1:30 is 90.
  * Refused: VAULT_UNREADABLE, with the length of the longest beginning of the text that some readable text, of either form, begins with too. So the
  * place is 5 in 1:30: and in 10:00:00, 4 in 0:00:00, and 2 in 1:60:00.
  */

@@ -54,7 +54,7 @@ static inline char *vault_line_pattern(uint64_t marks, uint64_t line, char *out)
 
 /*
  * Seconds as a running time, such as "12:30". It is written to out, which has VAULT_TIME_SIZE bytes, enough for every number, and out is
- * returned. It is in minutes, also from an hour on. vault_read_time reads it back, up to 599:59, and the form is then VAULT_FORM_MINUTES.
+ * returned. It is in minutes, also from an hour on. vault_read_time reads it back, up to 599:59, and the form is then VAULT_IN_MINUTES.
  */
 static inline char *vault_time_text(uint64_t seconds, char *out)
 {

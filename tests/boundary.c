@@ -472,28 +472,28 @@ static void faulty_times(void)
 /* The length counts, and nothing else: zero bytes, and lengths of which the low bits are those of a readable text. */
 static void lengths_of_times(void)
 {
-    static const struct vault_time minutes = {VAULT_DONE, 0, 90, VAULT_FORM_MINUTES};
+    static const struct vault_time minutes = {VAULT_DONE, 0, 90, VAULT_IN_MINUTES};
     static char text[(1 << 16) + 8];
-    check(alike(vault_read_time(NULL, 0), (struct vault_time){VAULT_UNREADABLE, 0, 0, VAULT_FORM_NONE}), "no text", 0);
+    check(alike(vault_read_time(NULL, 0), (struct vault_time){VAULT_UNREADABLE, 0, 0, VAULT_NO_TIME}), "no text", 0);
     reads("1:30:00", 4, minutes);
-    reads("1:30:00", 5, (struct vault_time){VAULT_UNREADABLE, 5, 0, VAULT_FORM_NONE});
+    reads("1:30:00", 5, (struct vault_time){VAULT_UNREADABLE, 5, 0, VAULT_NO_TIME});
     reads("1:30\0", 4, minutes);
-    reads("1:30\0", 5, (struct vault_time){VAULT_UNREADABLE, 4, 0, VAULT_FORM_NONE});
-    reads("5:5\0", 4, (struct vault_time){VAULT_UNREADABLE, 3, 0, VAULT_FORM_NONE});
-    reads("\0" "1:30", 5, (struct vault_time){VAULT_UNREADABLE, 0, 0, VAULT_FORM_NONE});
-    reads("1:30\0" "00", 7, (struct vault_time){VAULT_UNREADABLE, 4, 0, VAULT_FORM_NONE});
-    reads("1:30:\0" "0", 7, (struct vault_time){VAULT_UNREADABLE, 5, 0, VAULT_FORM_NONE});
-    reads("1:30:00\0", 8, (struct vault_time){VAULT_UNREADABLE, 7, 0, VAULT_FORM_NONE});
+    reads("1:30\0", 5, (struct vault_time){VAULT_UNREADABLE, 4, 0, VAULT_NO_TIME});
+    reads("5:5\0", 4, (struct vault_time){VAULT_UNREADABLE, 3, 0, VAULT_NO_TIME});
+    reads("\0" "1:30", 5, (struct vault_time){VAULT_UNREADABLE, 0, 0, VAULT_NO_TIME});
+    reads("1:30\0" "00", 7, (struct vault_time){VAULT_UNREADABLE, 4, 0, VAULT_NO_TIME});
+    reads("1:30:\0" "0", 7, (struct vault_time){VAULT_UNREADABLE, 5, 0, VAULT_NO_TIME});
+    reads("1:30:00\0", 8, (struct vault_time){VAULT_UNREADABLE, 7, 0, VAULT_NO_TIME});
     for (size_t i = 0; i < 5; i++) {
         static const uint64_t place[] = {1, 3, 3, 2, 0};
         memset(text, "0156:"[i], ROOM);
-        reads(text, ROOM, (struct vault_time){VAULT_UNREADABLE, place[i], 0, VAULT_FORM_NONE});
+        reads(text, ROOM, (struct vault_time){VAULT_UNREADABLE, place[i], 0, VAULT_NO_TIME});
     }
     memset(text, '0', sizeof text);
     memcpy(text, "1:30:00", 7);
     for (size_t high = 1 << 8; high <= 1 << 16; high <<= 8)
         for (size_t n = high; n <= high + 7; n++)
-            check(alike(vault_read_time(text, n), (struct vault_time){VAULT_UNREADABLE, 7, 0, VAULT_FORM_NONE}), "a long text", (long)n);
+            check(alike(vault_read_time(text, n), (struct vault_time){VAULT_UNREADABLE, 7, 0, VAULT_NO_TIME}), "a long text", (long)n);
 }
 
 /* All the readable texts there are, put one after another into a tree whose nodes are their beginnings. */
@@ -511,8 +511,8 @@ static struct vault_time told(const uint8_t *text, size_t n)
     size_t k = 0;
     for (; k < n && text[k] >= '0' && text[k] <= ':' && b->longer[text[k] - '0'] != 0; k++)
         b = beginnings + b->longer[text[k] - '0'];
-    if (k < n || b->form == VAULT_FORM_NONE)
-        return (struct vault_time){VAULT_UNREADABLE, k, 0, VAULT_FORM_NONE};
+    if (k < n || b->form == VAULT_NO_TIME)
+        return (struct vault_time){VAULT_UNREADABLE, k, 0, VAULT_NO_TIME};
     return (struct vault_time){VAULT_DONE, 0, b->value, b->form};
 }
 
@@ -536,11 +536,11 @@ static void grow(void)
     uint32_t nodes = 1;
     for (uint64_t t = 0; t < 600 * 60; t++) {
         snprintf(text, sizeof text, "%d:%02d", (int)(t / 60), (int)(t % 60));
-        nodes = made_of(text, t, VAULT_FORM_MINUTES, nodes);
+        nodes = made_of(text, t, VAULT_IN_MINUTES, nodes);
     }
     for (uint64_t t = 1 * 3600; t < 10 * 3600; t++) {
         snprintf(text, sizeof text, "%d:%02d:%02d", (int)(t / 3600), (int)(t / 60 % 60), (int)(t % 60));
-        nodes = made_of(text, t, VAULT_FORM_HOURS, nodes);
+        nodes = made_of(text, t, VAULT_IN_HOURS, nodes);
     }
     check(nodes == BEGINNINGS, "the beginnings of all running times", (long)nodes);
 }
@@ -1131,7 +1131,7 @@ static void *night(void *arg)
         r = vault_write_pla(form[now], n, text, sizeof text);
         wrong += r.answer != VAULT_DONE || vault_read_pla(text, (size_t)r.value, form[!now], VAULT_FORM_SIZE).value != 5 + size;
         struct vault_time time = seed % 2 ? vault_read_time("1:30:00", 7) : vault_read_time("90:00", 5);
-        wrong += time.answer != VAULT_DONE || time.value != 5400 || time.form != (seed % 2 ? VAULT_FORM_HOURS : VAULT_FORM_MINUTES);
+        wrong += time.answer != VAULT_DONE || time.value != 5400 || time.form != (seed % 2 ? VAULT_IN_HOURS : VAULT_IN_MINUTES);
     }
     return (void *)(size_t)wrong;
 }

@@ -114,7 +114,7 @@ static void times(void)
     for (uint64_t t = 0; t <= VAULT_MOST_AMOUNT; t++) {
         vault_time_text(t, text);
         struct vault_time r = vault_read_time(text, strlen(text));
-        check(r.answer == VAULT_DONE && r.value == t && r.form == VAULT_FORM_MINUTES, "a time is read back", t);
+        check(r.answer == VAULT_DONE && r.value == t && r.form == VAULT_IN_MINUTES, "a time is read back", t);
     }
     for (size_t i = 0; i < sizeof more / sizeof *more; i++) {
         snprintf(want, sizeof want, "%" PRIu64 ":%02" PRIu64, more[i] / 60, more[i] % 60);
