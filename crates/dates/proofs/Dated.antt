@@ -5,43 +5,44 @@ use mathlib.Core.List.{List}
 use native.Mathlib.Omega.{arith}
 use lib.ListN.{length, getD, take, drop, length-drop, take-append-drop}
 use lib.Seq.{take-suc, take-add, length-take-le}
+use Rattle.ground.specs.Figures.{figures}
 use Rattle.dates.specs.declared.date.Date.{Date}
 use Rattle.dates.specs.declared.digits.Number.the-variants.{Digits, NoDigits}
 use Rattle.dates.specs.declared.reading.Dating.the-variants.{On, NoDate}
-use Rattle.dates.specs.Texts.{digits, Numbered, dateText, DatedBy, DatingOf}
+use Rattle.dates.specs.Texts.{Numbered, dateText, DatedBy, DatingOf}
 use Rattle.dates.proofs.Numbers.{writes-same, number-long}
 
 module _ {line : List ℕ} {d : Date} {rest : List ℕ} (w : DatedBy line d rest) where
   pub dated-long : 11 ≤ length line
-  unfolding digits dateText
+  unfolding figures dateText
   dated-long = rw (w .text) (omega arith)
 
   dated-year : Numbered (take 4 line) (Digits (d .year))
-  unfolding digits dateText
+  unfolding figures dateText
   dated-year = rw (w .text) (record { small = w .year; text = refl })
 
   dated-dash : getD line 4 0 ≡ 45
-  unfolding digits dateText
+  unfolding figures dateText
   dated-dash = rw (w .text)
 
   dated-month : Numbered (take 2 (drop 5 line)) (Digits (d .month))
-  unfolding digits dateText
+  unfolding figures dateText
   dated-month = rw (w .text) (record { small = w .month; text = refl })
 
   dated-dash-2 : getD line 7 0 ≡ 45
-  unfolding digits dateText
+  unfolding figures dateText
   dated-dash-2 = rw (w .text)
 
   dated-day : Numbered (take 2 (drop 8 line)) (Digits (d .day))
-  unfolding digits dateText
+  unfolding figures dateText
   dated-day = rw (w .text) (record { small = w .day; text = refl })
 
   dated-space : getD line 10 0 ≡ 32
-  unfolding digits dateText
+  unfolding figures dateText
   dated-space = rw (w .text)
 
   pub dated-rest : rest ≡ drop 11 line
-  unfolding digits dateText
+  unfolding figures dateText
   dated-rest = rw (w .text)
 
 -- a line is dated in one way

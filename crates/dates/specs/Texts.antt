@@ -1,9 +1,10 @@
 -- How a date is written: YYYY-MM-DD, each part with all its digits. A text is a list of bytes; 48 is `0`.
-use Prim.Native.Nat.{ℕ, zero, suc, _+_, _/_, _%_, _^_, _<_}
+use Prim.Native.Nat.{ℕ, _^_, _<_}
 use mathlib.Core.Path.{_≡_}
-use mathlib.Core.List.{List, [], _∷_, _++_}
+use mathlib.Core.List.{List, _++_}
 use lib.ListN.{length}
 use Rattle.ground.specs.Texts.{ascii}
+use Rattle.ground.specs.Figures.{figures}
 use Rattle.dates.specs.declared.date.Date.{Date}
 use Rattle.dates.specs.declared.digits.Number.{Number}
 use Rattle.dates.specs.declared.digits.Number.the-variants.{Digits, NoDigits}
@@ -11,9 +12,8 @@ use Rattle.dates.specs.declared.reading.Dating.{Dating}
 use Rattle.dates.specs.declared.reading.Dating.the-variants.{On, NoDate}
 
 -- the last k digits of a number, with zeros in front where it has fewer
-unfoldable pub digits : ℕ → ℕ → List ℕ
-digits zero n = []
-digits (suc k) n = digits k (n / 10) ++ (48 + n % 10) ∷ []
+abbrev pub digits : ℕ → ℕ → List ℕ
+digits k n = figures 10 k n
 
 -- a part is a number of k digits
 pub record Writes (k : ℕ) (part : List ℕ) (n : ℕ) : Type 0 where

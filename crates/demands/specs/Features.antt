@@ -42,6 +42,6 @@ pub record Features : Type 0 where
   pub receives : {m c d : ℕ} {f : Form} {line : List ℕ} {o : Order} → NamesAmount m (ascii "recv ") line c d f → Asked m line o → o ≡ Make (Receive c d) f
   pub withdraws : {m c d : ℕ} {f : Form} {line : List ℕ} {o : Order} → NamesAmount m (ascii "gone ") line c d f → Asked m line o → o ≡ Make (Withdraw c d) f
   pub on-day : {m : ℕ} {day : Date} {c : Call} {f : Form} {line : List ℕ} {s : Slip} → SaysOn m line day c f → AskedInYear m line s → s ≡ Dated day c f
-  -- the desk prints as today: lines whose running times are written in the other form print the same
+  -- the desk prints as today: lines, within their 40 bytes, whose running times are written in the other form print the same
   pub holdings : (input other : List ℕ) {output : List ℕ} → SameBut OtherForm (rows input) (rows other) → Prints input output → Prints other output
   pub months : (input other : List ℕ) {output : List ℕ} → SameBut OtherForm (rows input) (rows other) → PrintsYear input output → PrintsYear other output

@@ -5,6 +5,7 @@ use mathlib.Core.Bool.{Bool, true, false, _||_}
 use mathlib.Core.List.{List, [], _∷_, _++_}
 use native.Mathlib.Omega.{arith}
 use lib.Dec.{eqb}
+use Rattle.ground.specs.Figures.{figures}
 use Rattle.boxes.specs.Boxes.{sumIn, contains, agrees, through}
 use Rattle.boxes.specs.Sums.{sum}
 use Rattle.lists.specs.Lists.{among, firstFrom, FirstShortest}
@@ -67,7 +68,7 @@ withdraw : (c d : ℕ) (line time : List ℕ) → c < 4 → Readable time d Minu
 withdraw c d line time h t e = RowAsks.read (said (withdraws (record { small = h; time = time; readable = t; text = e })))
 
 pub sample : Prints sampleInput sampleOutput
-unfolding rowsFrom judged written marksOk amountOk sum class page heads boxLine boxLines lastLine decimal decimalIn clock pattern sumIn contains agrees
+unfolding rowsFrom judged figures marksOk amountOk sum class page heads boxLine boxLines lastLine decimal decimalIn clock pattern sumIn contains agrees
 sample =
     Onward.line {now = []} (opens {f = Marks 2} (RowOpens.read (marks {n = 2} (omega arith, refl))) refl)
     (Onward.line {now = []} (made {c = Enter 1} (enter 1 (ascii "in 01") (omega arith) refl))

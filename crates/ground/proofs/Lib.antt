@@ -3,3 +3,4 @@ pub mod Every
 pub mod Areas
 pub mod Beginnings
 pub mod Without
+pub mod Figures

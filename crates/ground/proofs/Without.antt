@@ -1,6 +1,6 @@
 -- Texts without a byte: they are put together of such texts, and a text is cut in one way at the last of a byte.
 use Prim.Native.Nat.{ℕ}
-use mathlib.Core.Path.{_≡_, refl, sym, ap, _∙_, subst}
+use mathlib.Core.Path.{_≡_, refl, sym, subst}
 use mathlib.Core.List.{List, [], _∷_, _++_}
 
 -- no byte of the text is b

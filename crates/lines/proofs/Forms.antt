@@ -1,12 +1,13 @@
 -- A line whose running time is written in another form asks for the same call: a running time has no space, so that a line is cut in one way at its last
 -- space; and it has a colon, which no line without a running time has.
-use Prim.Native.Nat.{ℕ, zero, suc, _+_, _/_, _%_, _≤_}
+use Prim.Native.Nat.{ℕ, _+_}
 use mathlib.Core.Path.{_≡_, refl, sym, ap, _∙_, subst}
 use mathlib.Core.List.{List, [], _∷_, _++_, append-assoc}
 use native.Mathlib.Omega.{arith}
 use lib.Seq.{append-snoc}
 use Rattle.ground.specs.Texts.{ascii}
 use Rattle.ground.proofs.Without.{Without, without-append, without-behind, last-at}
+use Rattle.ground.proofs.Figures.{figures-without}
 use Rattle.times.specs.declared.Form.{Form}
 use Rattle.times.specs.Texts.{Readable}
 use Rattle.times.proofs.Bytes.{no-space, some-colon}
@@ -15,7 +16,7 @@ use Rattle.lines.specs.declared.Order.{Order}
 use Rattle.lines.specs.declared.Order.the-variants.{Make, Unreadable}
 use Rattle.lines.specs.declared.First.{First}
 use Rattle.lines.specs.Words.{written, Names, NamesAmount, Says, enters, leaves, receives, withdraws, ends, Asked, said, nothing, MarksLine, Opens, marks}
-use Rattle.lines.specs.Forms.{EndsIn, OtherForm}
+use Rattle.lines.specs.Forms.{OtherForm}
 use Rattle.lines.proofs.Settled.{same-time}
 
 pub flip : {line other : List ℕ} → OtherForm line other → OtherForm other line
@@ -25,11 +26,6 @@ flip o = record { front = o .front; seconds = o .seconds; one = o .two; two = o 
 pub has-colon : {line other : List ℕ} → OtherForm line other → Without 58 line → ⊥
 has-colon o w =
     some-colon (o .one .readable) (without-behind 58 (o .front ++ ascii " ") (o .one .time) (subst (Without 58) (o .one .text) w))
-
-written-plain : (m c : ℕ) → Without 58 (written m c)
-unfolding written Without
-written-plain zero c = tt
-written-plain (suc m) c = without-append 58 (written m (c / 2)) ((48 + c % 2) ∷ []) (written-plain m (c / 2)) (λ e. omega arith, tt)
 
 in-plain : Without 58 (ascii "in ")
 unfolding Without
@@ -44,7 +40,7 @@ unfolding Without
 end-plain = (λ e. omega arith, (λ e. omega arith, (λ e. omega arith, tt)))
 
 names-plain : {m c : ℕ} {verb line : List ℕ} → Without 58 verb → Names m verb line c → Without 58 line
-names-plain {m} {c} {verb} v n = subst (Without 58) (sym (n .text)) (without-append 58 verb (written m c) v (written-plain m c))
+names-plain {m} {c} {verb} v n = subst (Without 58) (sym (n .text)) (without-append 58 verb (written m c) v (figures-without 2 (omega arith) 58 m c (λ x h e. omega arith)))
 
 -- behind a part without a colon
 

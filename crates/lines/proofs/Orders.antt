@@ -12,6 +12,7 @@ use Rattle.times.specs.declared.Form.{Form}
 use Rattle.times.specs.declared.Form.the-variants.{NoTime}
 use Rattle.times.specs.declared.Time.the-variants.{Value, Fault}
 use Rattle.ground.specs.Texts.{ascii, Begins}
+use Rattle.ground.proofs.Figures.{figures-length}
 use Rattle.times.specs.Texts.{Readable}
 use Rattle.times.specs.Places.{ReadsAs, value, fault}
 use Rattle.sheet.specs.declared.Call.the-variants.{Enter, Leave, Receive, Withdraw}
@@ -22,7 +23,6 @@ use Rattle.lines.specs.declared.Pattern.the-variants.{Combination, NoPat
 use Rattle.lines.specs.declared.Amount.the-variants.{Seconds, NoAmount}
 use Rattle.lines.specs.Words.{written, Names, NamesAmount, Says, Asked, said, nothing, Opens, marks, other}
 use Rattle.lines.specs.Parts.{Patterned, Amounts}
-use Rattle.lines.proofs.Patterns.{written-length}
 
 -- P, one space and T
 
@@ -30,11 +30,11 @@ module _ (m : ℕ) (part : List ℕ) where
   pub amount-short : length part ≤ m → Amounts m part NoAmount
   amount-short h =
       λ c d f n.
-      omega (arith, ap length (n .text), written-length m c, length-append (written m c ++ ascii " ") (n .time), length-append (written m c) (ascii " "))
+      omega (arith, ap length (n .text), figures-length 2 m c, length-append (written m c ++ ascii " ") (n .time), length-append (written m c) (ascii " "))
 
   space-at : {c d : ℕ} {f : Form} (n : NamesAmount m [] part c d f) → getD part m 0 ≡ 32
   space-at {c} n =
-      ap (λ (l : List ℕ). getD l m 0) (n .text ∙ append-snoc (written m c) 32 (n .time)) ∙ getD-at (written m c) 32 (n .time) 0 m (written-length m c)
+      ap (λ (l : List ℕ). getD l m 0) (n .text ∙ append-snoc (written m c) 32 (n .time)) ∙ getD-at (written m c) 32 (n .time) 0 m (figures-length 2 m c)
 
   pub amount-unspaced : (getD part m 0 ≡ 32 → ⊥) → Amounts m part NoAmount
   amount-unspaced q = λ c d f n. q (space-at n)
@@ -42,14 +42,14 @@ module _ (m : ℕ) (part : List ℕ) where
   pub front-at : {c d : ℕ} {f : Form} (n : NamesAmount m [] part c d f) → Names m [] (take m part) c
   front-at {c} n = record {
     small = n .small;
-    text = ap (take m) (n .text ∙ append-assoc (written m c) (ascii " ") (n .time)) ∙ take-at (written m c) (ascii " " ++ n .time) m (written-length m c);
+    text = ap (take m) (n .text ∙ append-assoc (written m c) (ascii " ") (n .time)) ∙ take-at (written m c) (ascii " " ++ n .time) m (figures-length 2 m c);
   }
 
   pub amount-unnamed : Patterned m (take m part) NoPattern → Amounts m part NoAmount
   amount-unnamed q = λ c d f n. q c (front-at n)
 
   pub time-at : {c d : ℕ} {f : Form} (n : NamesAmount m [] part c d f) → drop (m + 1) part ≡ n .time
-  time-at {c} n = ap (drop (m + 1)) (n .text) ∙ drop-at (written m c ++ ascii " ") (n .time) (m + 1) (omega (arith, length-append (written m c) (ascii " "), written-length m c))
+  time-at {c} n = ap (drop (m + 1)) (n .text) ∙ drop-at (written m c ++ ascii " ") (n .time) (m + 1) (omega (arith, length-append (written m c) (ascii " "), figures-length 2 m c))
 
   -- the part behind the space, as it is lent
   time-lent : take (length part - (m + 1)) (drop (m + 1) part) ≡ drop (m + 1) part

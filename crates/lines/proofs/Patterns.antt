@@ -1,51 +1,22 @@
 -- P, read from its lowest mark on: the last i characters write what is read so far (`Tail`), and each sets the mark in front of them.
 use Prim.Native.Nat.{ℕ, zero, suc, _+_, _-_, _*_, _/_, _%_, _^_, _<_, _≤_}
-use mathlib.Core.Path.{_≡_, refl, sym, ap, ap₂, _∙_}
+use mathlib.Core.Path.{_≡_, sym, ap, ap₂, _∙_}
 use mathlib.Core.List.{List, [], _∷_, _++_}
 use native.Mathlib.Nat.{pow-suc}
 use native.Mathlib.Numerals.{add-one}
 use native.Mathlib.Omega.{arith}
-use lib.ListN.{length, getD, take, drop, drop-of-length-le, length-append, List·getD-append}
-use lib.Seq.{take-at, getD-at, drop-cons}
-use Rattle.ground.proofs.Cases.{below-or, mark}
+use lib.ListN.{length, getD, drop, drop-of-length-le}
+use lib.Seq.{drop-cons}
+use Rattle.ground.specs.Figures.{figures}
+use Rattle.ground.proofs.Cases.{mark}
+use Rattle.ground.proofs.Figures.{figures-length, figures-byte}
 use Rattle.lines.specs.declared.Pattern.the-variants.{Combination, NoPattern}
 use Rattle.lines.specs.Words.{written}
 use Rattle.lines.specs.Parts.{Patterned}
 
-pub written-length : (m c : ℕ) → length (written m c) ≡ m
-unfolding written
-written-length zero c = refl
-written-length (suc m) c = omega (arith, length-append (written m (c / 2)) ((48 + c % 2) ∷ []), written-length m (c / 2))
-
--- each character is 0 or 1
-written-byte : (m c i : ℕ) → i < m → (48 ≤ getD (written m c) i 0) × (getD (written m c) i 0 ≤ 49)
-unfolding written
-written-byte zero c i h = absurd (omega arith)
-written-byte (suc m) c i h =
-    let w = written m (c / 2) in
-    let l = written-length m (c / 2) in
-    below-or i m
-    (λ k. let e : getD (w ++ (48 + c % 2) ∷ []) i 0 ≡ getD w i 0 = List·getD-append w ((48 + c % 2) ∷ []) 0 i (omega arith) in
-    let b = written-byte m (c / 2) i k in (omega arith, omega arith))
-    (λ k. let e : getD (w ++ (48 + c % 2) ∷ []) i 0 ≡ 48 + c % 2 = getD-at w (48 + c % 2) [] 0 i (omega arith) in (omega arith, omega arith))
-
--- two combinations that are written alike are one
-pub written-same : (m c d : ℕ) → c < 2 ^ m → d < 2 ^ m → written m c ≡ written m d → c ≡ d
-unfolding written
-written-same zero c d h k e = omega arith
-written-same (suc m) c d h k e =
-    let p = pow-suc 2 m in
-    let a = written m (c / 2) in
-    let b = written m (d / 2) in
-    let f : a ≡ b = sym (take-at a ((48 + c % 2) ∷ []) m (written-length m (c / 2))) ∙ ap (take m) e ∙ take-at b ((48 + d % 2) ∷ []) m (written-length m (d / 2)) in
-    let g : 48 + c % 2 ≡ 48 + d % 2 =
-    sym (getD-at a (48 + c % 2) [] 0 m (written-length m (c / 2))) ∙ ap (λ (l : List ℕ). getD l m 0) e ∙ getD-at b (48 + d % 2) [] 0 m (written-length m (d / 2)) in
-    let q : c / 2 ≡ d / 2 = written-same m (c / 2) (d / 2) (omega arith) (omega arith) f in
-    omega arith
-
 -- a mark in front
 written-front : (i n d : ℕ) → n < 2 ^ i → d < 2 → written (suc i) (d * 2 ^ i + n) ≡ (48 + d) ∷ written i n
-unfolding written
+unfolding figures
 written-front zero n d h k = ap (λ (x : ℕ). (48 + x) ∷ []) (mark (λ (v : ℕ). (v * 2 ^ 0 + n) % 2 ≡ v) d k (omega arith) (omega arith))
 written-front (suc i) n d h k =
     let p = pow-suc 2 i in
@@ -59,7 +30,7 @@ pub record Tail (part : List ℕ) (m i n : ℕ) : Type 0 where
   pub text : drop (m - i) part ≡ written i n
 
 pub tail-none : (part : List ℕ) (m : ℕ) → length part ≡ m → Tail part m 0 0
-unfolding written
+unfolding figures
 tail-none part m e = let h : length part ≤ m - 0 = omega arith in record { small = omega arith; text = drop-of-length-le part h }
 
 pub tail-more : (part : List ℕ) (m i n d : ℕ) → Tail part m i n → i < m → length part ≡ m → d < 2 → getD part (m - 1 - i) 0 ≡ 48 + d
@@ -80,13 +51,13 @@ tail-more part m i n d t h l k e =
 
 module _ (m : ℕ) (part : List ℕ) where
   pub pattern-long : (length part ≡ m → ⊥) → Patterned m part NoPattern
-  pattern-long n = λ c w. n (ap length (w .text) ∙ written-length m c)
+  pattern-long n = λ c w. n (ap length (w .text) ∙ figures-length 2 m c)
 
   pub pattern-other : (i : ℕ) → i < m → ((48 ≤ getD part i 0) × (getD part i 0 ≤ 49) → ⊥) → Patterned m part NoPattern
   pattern-other i h n =
       λ c w.
       let e : getD part i 0 ≡ getD (written m c) i 0 = ap (λ (l : List ℕ). getD l i 0) (w .text) in
-      let b = written-byte m c i h in
+      let b = figures-byte 2 (omega arith) m c i h in
       n (omega arith, omega arith)
 
   pub pattern-read : (n : ℕ) → Tail part m m n → Patterned m part (Combination n)

@@ -4,6 +4,7 @@ use mathlib.Core.Path.{_≡_, refl, sym, ap, _∙_, subst}
 use mathlib.Core.List.{List, []}
 use native.Mathlib.Omega.{arith}
 use lib.ListN.{getD}
+use Rattle.ground.proofs.Figures.{figures-same}
 use Rattle.times.specs.declared.Form.{Form}
 use Rattle.times.specs.declared.Form.the-variants.{NoTime}
 use Rattle.times.specs.declared.Time.the-variants.{Value}
@@ -17,14 +18,13 @@ use Rattle.lines.specs.declared.Order.the-variants.{Make}
 use Rattle.lines.specs.declared.First.{First}
 use Rattle.lines.specs.declared.First.the-variants.{Marks}
 use Rattle.lines.specs.Words.{Names, NamesAmount, Says, Asked, said, nothing, Opens, marks, other, RowAsks, RowOpens}
-use Rattle.lines.proofs.Patterns.{written-same}
 use Rattle.lines.proofs.Orders.{Verb, Part, enters, leaves, receives, withdraws, ends, apart, apart-same, front-at, time-at}
 
 pub same-time : {t : List ℕ} {v w : ℕ} {f g : Form} → Readable t v f → Readable t w g → (v ≡ w) × (f ≡ g)
 same-time {t} {v} {w} {f} {g} p q = let e : Value v f ≡ Value w g = read-settled (value p) (value q) in (cc, cc)
 
 same-names : {m : ℕ} {part : List ℕ} {c e : ℕ} → Names m [] part c → Names m [] part e → c ≡ e
-same-names {m} {part} {c} {e} n k = written-same m c e (n .small) (k .small) (sym (n .text) ∙ k .text)
+same-names {m} {part} {c} {e} n k = figures-same 2 (omega arith) m c e (n .small) (k .small) (sym (n .text) ∙ k .text)
 
 same-amount : {m : ℕ} {part : List ℕ} {c d e b : ℕ} {f g : Form} → NamesAmount m [] part c d f → NamesAmount m [] part e b g → (c ≡ e) × (d ≡ b) × (f ≡ g)
 same-amount {m} {part} {b = b} {g = g} n k =

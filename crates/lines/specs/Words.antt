@@ -1,8 +1,9 @@
 -- What a line of at most 40 bytes says (01, 'Desk program'). A line is told without its newline.
-use Prim.Native.Nat.{ℕ, zero, suc, _+_, _/_, _%_, _^_, _<_, _≤_}
+use Prim.Native.Nat.{ℕ, _+_, _^_, _<_, _≤_}
 use mathlib.Core.Path.{_≡_}
 use mathlib.Core.List.{List, [], _∷_, _++_}
 use Rattle.ground.specs.Texts.{ascii}
+use Rattle.ground.specs.Figures.{figures}
 use Rattle.times.specs.declared.Form.{Form}
 use Rattle.times.specs.declared.Form.the-variants.{NoTime}
 use Rattle.times.specs.Texts.{Readable}
@@ -14,9 +15,8 @@ use Rattle.lines.specs.declared.First.{First}
 use Rattle.lines.specs.declared.First.the-variants.{Marks, NotMarks}
 
 -- P: the combination c as m characters 0 or 1, highest mark first
-unfoldable pub written : ℕ → ℕ → List ℕ
-written zero c = []
-written (suc m) c = written m (c / 2) ++ (48 + c % 2) ∷ []
+abbrev pub written : ℕ → ℕ → List ℕ
+written m c = figures 2 m c
 
 -- a verb and P: `in P`, `out P`
 pub record Names (m : ℕ) (verb line : List ℕ) (c : ℕ) : Type 0 where

@@ -17,7 +17,7 @@ use Rattle.times.proofs.Places.{Open, handed, ends as ends-there, stops
 
 -- two bytes that write a number, and the number that they write
 
-pub sixty : (a b : ℕ) → UpTo 53 a → UpTo 57 b → Sixty (a ∷ b ∷ []) ((a - 48) * 10 + (b - 48))
+sixty : (a b : ℕ) → UpTo 53 a → UpTo 57 b → Sixty (a ∷ b ∷ []) ((a - 48) * 10 + (b - 48))
 sixty a b h k =
     let x = (a - 48) * 10 + (b - 48) in
     let e : a ≡ 48 + x / 10 = omega arith in

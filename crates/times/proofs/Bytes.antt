@@ -1,13 +1,13 @@
 -- A running time has a colon and no space.
-use Prim.Native.Nat.{ℕ, _+_, _/_, _%_}
-use mathlib.Core.Path.{_≡_, sym, _∙_, subst}
+use Prim.Native.Nat.{ℕ, _+_}
+use mathlib.Core.Path.{sym, _∙_, subst}
 use mathlib.Core.List.{List, [], _∷_, _++_}
 use native.Mathlib.Omega.{arith}
 use lib.Seq.{append-snoc}
 use Rattle.ground.specs.Texts.{ascii}
 use Rattle.ground.proofs.Without.{Without, without-append, without-at}
 use Rattle.times.specs.declared.Form.{Form}
-use Rattle.times.specs.Texts.{Digits, Sixty, InMinutes, InHours, Readable, minutes, hours}
+use Rattle.times.specs.Texts.{Digits, Sixty, Readable, minutes, hours}
 
 digits-no-space : (l : List ℕ) → Digits l → Without 32 l
 unfolding Digits Without

@@ -16,7 +16,7 @@ use Rattle.ground.specs.Texts.{ascii}
 use Rattle.print.specs.Texts.{clock}
 use Rattle.print.proofs.Digits.{time-room}
 use Rattle.dates.specs.Texts.{digits}
-use Rattle.dates.proofs.Numbers.{digits-length}
+use Rattle.ground.proofs.Figures.{figures-length}
 use Rattle.dates.specs.declared.date.Date.{Date}
 use Rattle.sheet.specs.declared.Call.{Call}
 use Rattle.bookings.specs.Bookings.{on, History, monthTotal, lastDate, dateOk, withBooking}
@@ -108,7 +108,7 @@ unfolding monthRow
 row-length m s l =
     omega (
       arith,
-      digits-length 2 m,
+      figures-length 10 2 m,
       time-room s l,
       length-append (digits 2 m) (ascii " "),
       length-append (digits 2 m ++ ascii " ") (clock s),

@@ -1,10 +1,11 @@
 -- A line of a year whose running time is written in another form asks for the same: a date has no colon.
-use Prim.Native.Nat.{ℕ, zero, suc, _+_, _/_, _%_}
-use mathlib.Core.Path.{_≡_, sym, ap, _∙_, subst}
-use mathlib.Core.List.{List, [], _∷_, _++_}
+use Prim.Native.Nat.{ℕ, _+_}
+use mathlib.Core.Path.{sym, ap, _∙_, subst}
+use mathlib.Core.List.{List, _++_}
 use native.Mathlib.Omega.{arith}
 use Rattle.ground.specs.Texts.{ascii}
 use Rattle.ground.proofs.Without.{Without, without-append}
+use Rattle.ground.proofs.Figures.{figures-without}
 use Rattle.times.specs.declared.Form.{Form}
 use Rattle.dates.specs.declared.date.Date.{Date}
 use Rattle.dates.specs.Texts.{digits, dateText}
@@ -18,9 +19,7 @@ use Rattle.year_lines.specs.declared.Slip.the-variants.{Dated, Plain}
 use Rattle.year_lines.specs.Slips.{YearLine, NamesYear, year, SaysOn, Asked}
 
 digits-plain : (k n : ℕ) → Without 58 (digits k n)
-unfolding digits Without
-digits-plain zero n = tt
-digits-plain (suc k) n = without-append 58 (digits k (n / 10)) ((48 + n % 10) ∷ []) (digits-plain k (n / 10)) (λ e. omega arith, tt)
+digits-plain k n = figures-without 10 (omega arith) 58 k n (λ x h e. omega arith)
 
 date-plain : (d : Date) → Without 58 (dateText d ++ ascii " ")
 unfolding dateText Without

@@ -7,7 +7,8 @@ use lib.ListN.{length, drop}
 use Rattle.ground.specs.Texts.{ascii, Begins}
 use Rattle.dates.specs.declared.digits.Number.the-variants.{Digits, NoDigits}
 use Rattle.dates.specs.Texts.{Writes, Numbered}
-use Rattle.dates.proofs.Numbers.{digits-length, writes-same, number-long}
+use Rattle.ground.proofs.Figures.{figures-length}
+use Rattle.dates.proofs.Numbers.{writes-same, number-long}
 use Rattle.year_lines.specs.declared.Named.the-variants.{Year, NoYear}
 use Rattle.year_lines.specs.Slips.{YearLine, NamesYear, year, other}
 
@@ -16,7 +17,7 @@ module _ (line : List ℕ) where
   names-other b = other (λ y k. b (k .number, k .text))
 
   pub names-long : (length line ≡ 9 → ⊥) → NamesYear line NoYear
-  names-long q = other (λ y k. q (omega (arith, ap length (k .text), ap length (k .writes .text), digits-length 4 y)))
+  names-long q = other (λ y k. q (omega (arith, ap length (k .text), ap length (k .writes .text), figures-length 10 4 y)))
 
 -- the part behind `year `
 
