@@ -15,7 +15,7 @@ use sheet::Sheet;
 use sheet::Value;
 
 // The class that the counts tell, a bit for each combination.
-fn class_bits(m: usize, outside: &[u32]) -> u32
+pub fn class_bits(m: usize, outside: &[u32]) -> u32
     requires { ⌜ (m ≤ mostMarks) × (entries ≤ length (now outside)) ⌝ }
     ensures { λ r. ⌜ (r < 2 ^ (2 ^ m)) × (has r ≡ classOf m (now (outside .entry))) ⌝ }
 {

@@ -1,4 +1,5 @@
 pub mod Count
+pub mod Places
 pub mod Fit
 pub mod Order
 pub mod First

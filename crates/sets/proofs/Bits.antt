@@ -6,14 +6,14 @@ use native.Mathlib.Nat.{pow-suc, not-suc-le-zero, div-one}
 use native.Mathlib.Numerals.{one-add}
 use native.Mathlib.Omega.{arith}
 use lib.Arith.{bin-ind}
-use lib.Bits.{bitAnd, bitOr, and-step, or-step}
+use lib.Bits.{bitAnd, bitOr, and-step, or-step, and-le-l}
 use lib.Count.{under, trailingZeros}
 use lib.Dec.{eqb}
 use lib.Pow.{shr-shr}
 use borrow.Author.Tests.{eqb-true, eqb-false, eq-eqb, ne-eqb}
 use Rattle.boxes.specs.Sums.{only}
 use Rattle.boxes.proofs.Masks.{other-rest, other-mark}
-use Rattle.ground.proofs.Cases.{if, clash, below-or, mark}
+use Rattle.ground.proofs.Cases.{if, clash, below-or, mark, and-left, and-right}
 use Rattle.sets.specs.Sets.{has}
 
 and-bit : (x y : ℕ) → x < 2 → y < 2 → eqb (min x y) 1 ≡ (eqb x 1 && eqb y 1)
@@ -133,7 +133,7 @@ odd-step : (k u : ℕ) → 1 ≤ u % 2 → trailingZeros (suc k) u ≡ 0
 unfolding trailingZeros
 odd-step k u l = let e : u % 2 ≡ 1 = omega arith in ap (λ (r : ℕ). under r (trailingZeros k (u / 2))) e
 
-zeros-has : (k u : ℕ) → u < 2 ^ k → (u ≡ 0 → ⊥) → has u (trailingZeros k u) ≡ true
+pub zeros-has : (k u : ℕ) → u < 2 ^ k → (u ≡ 0 → ⊥) → has u (trailingZeros k u) ≡ true
 unfolding has
 zeros-has zero u h n = absurd (n (omega arith))
 zeros-has (suc k) u h n = below-or (u % 2) 1
@@ -153,3 +153,13 @@ module _ (m u : ℕ) (wide : u < 2 ^ 32) (small : u < 2 ^ (2 ^ m)) (some : u ≡
 
   pub zeros-lt : trailingZeros 32 u < 2 ^ m
   zeros-lt = has-small m u small (trailingZeros 32 u) zeros-needed
+
+-- ---- what two sets share: nothing exactly if their `&` is 0
+pub shared : (a b : ℕ) → a < 2 ^ 32 → (bitAnd a b ≡ 0 → ⊥) → (c : ℕ) × (has a c ≡ true) × (has b c ≡ true)
+shared a b h n =
+    let c = trailingZeros 32 (bitAnd a b) in
+    let e : (has a c && has b c) ≡ true = sym (has-and c a b) ∙ zeros-has 32 (bitAnd a b) (omega (arith, and-le-l a b)) n in
+    (c, and-left (has a c) _ e, and-right (has a c) _ e)
+
+pub not-shared : (a b c : ℕ) → bitAnd a b ≡ 0 → has a c ≡ true → has b c ≡ true → ⊥
+not-shared a b c z p q = clash (has-and c a b ∙ rw (p, q)) (ap (λ (x : ℕ). has x c) z ∙ has-zero c)

@@ -1,0 +1,3 @@
+pub mod Firsts
+pub mod Unions
+pub mod Faults

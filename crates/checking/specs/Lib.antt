@@ -1,0 +1,3 @@
+pub mod Faults
+pub mod Answers
+pub mod Parts
