@@ -1,4 +1,5 @@
 pub mod Tests
+pub mod Ready
 pub mod Answers
 pub mod Opening
 pub mod Classes
