@@ -25,16 +25,15 @@ use Rattle.vault.specs.declared.Reply.{Reply}
 use Rattle.vault.specs.declared.Wanted.{Wanted}
 use Rattle.vault.specs.declared.Wanted.the-variants.{Lines, Pla}
 use Rattle.vault.specs.Parts.{LaidAs}
-use Rattle.vault.specs.Entries.{replied, HoldsBy, HoldsNoneBy, Holds, Put, ChangesBy, Tells, Lends, Compared}
+use Rattle.vault.specs.Entries.{replied, valued, HoldsBy, HoldsNoneBy, Holds, Put, ChangesBy, TellsAs, Lends, Compared}
 
 -- whichever way of reading
 
 pub holds : {R : Read → Type 0} (a : Read) → R a → a .number ≡ 0 → HoldsBy R (a .sheet)
 holds a reads done = record { read = a; reads = reads; good = done; sheet = refl }
 
-pub holds-none : {R : Read → Type 0} (a : Read) {r : Reply} → R a → (a .number ≡ 0 → ⊥)
-    → r ≡ record { answer = a .number; place = a .place; value = 0 } → HoldsNoneBy R r
-holds-none a reads bad reply = record { read = a; reads = reads; bad = bad; reply = reply }
+pub holds-none : {A : Type 0} {R : Read → Type 0} (refusal : Read → A) (a : Read) {r : A} → R a → (a .number ≡ 0 → ⊥) → r ≡ refusal a → HoldsNoneBy R refusal r
+holds-none refusal a reads bad reply = record { read = a; reads = reads; bad = bad; reply = reply }
 
 -- a call's answer, written
 
@@ -42,7 +41,7 @@ pub put-refused : (a : Answer) (out : List ℕ) {r : Reply} → (a .number ≡ 0
 put-refused a out n e = subst (λ (x : Reply). Put a out x out) (sym e) (Put.refused n)
 
 pub put-written : (a : Answer) (out : List ℕ) {r : Reply} {v : Value} {later : List ℕ} → a .number ≡ 0 → Writes mostMarks (a .sheet) out v later
-    → r ≡ replied (v .number) (v .value) → Put a out r later
+    → r ≡ valued v → Put a out r later
 put-written a out {r} {v} {later} z w e = subst (λ (x : Reply). Put a out x later) (sym e) (Put.written z w)
 
 pub put-called : {R : Read → Type 0} (call : Sheet → Answer) {out : List ℕ} {s : Sheet} {a : Answer} {r : Reply} {later : List ℕ} → HoldsBy R s → a ≡ call s
@@ -57,14 +56,14 @@ changes-read {R} x (ChangesBy.unread u) =
 changes-read {R} x (ChangesBy.called h p) =
     ChangesBy.called (record { read = h .read; reads = subst R (sym (h .reads)) x; good = h .good; sheet = h .sheet }) p
 
--- a value, told or put into a lent area
+-- an answer, told, or put into a lent area
 
-pub value-told : (call : Sheet → Value → Type 0) {t : List ℕ} {s : Sheet} {v : Value} {r : Reply} → Holds t s → call s v
-    → r ≡ replied (v .number) (v .value) → Tells call t r
-value-told call {t} k w e = subst (Tells call t) (sym e) (Tells.told k w)
+pub told-as : {A B : Type 0} (refusal : Read → B) (reply : A → B) (call : Sheet → A → Type 0) {t : List ℕ} {s : Sheet} {a : A} {r : B} → Holds t s → call s a
+    → r ≡ reply a → TellsAs refusal reply call t r
+told-as refusal reply call {t} k w e = subst (TellsAs refusal reply call t) (sym e) (TellsAs.told k w)
 
 pub value-lent : (call : Sheet → List ℕ → Value → List ℕ → Type 0) {t area : List ℕ} {s : Sheet} {v : Value} {r : Reply} {later : List ℕ} → Holds t s
-    → call s area v later → r ≡ replied (v .number) (v .value) → Lends call t area r later
+    → call s area v later → r ≡ valued v → Lends call t area r later
 value-lent call {t} {area} {later = later} k w e = subst (λ (x : Reply). Lends call t area x later) (sym e) (Lends.lent k w)
 
 pub laid-lines : {what : Wanted} {s : Sheet} {area later : List ℕ} {v : Value} → what ≡ Lines → Listed mostMarks s area v later → LaidAs what s area v later

@@ -36,7 +36,7 @@ reads-form r g {a} x =
 pub holds-record : (r : Record) → Good r → {s : Sheet} → Holds (form r) s → s ≡ sheetOf entries r
 holds-record r g h = sym (h .sheet) ∙ ap (λ (a : Read). a .sheet) (reads-form r g (h .reads))
 
-pub holds-some : (r : Record) → Good r → {reply : Reply} → HoldsNone (form r) reply → ⊥
+pub holds-some : {A : Type 0} {refusal : Read → A} (r : Record) → Good r → {reply : A} → HoldsNone refusal (form r) reply → ⊥
 holds-some r g u = u .bad (ap (λ (a : Read). a .number) (reads-form r g (u .reads)))
 
 -- on the record's sheet: the call's number, and the sheet of the record that it leaves

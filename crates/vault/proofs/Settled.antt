@@ -16,8 +16,10 @@ use Rattle.pla.specs.Answers.{ReadsPla, WritesPla}
 use Rattle.pla.proofs.Settled.{reads-pla-settled, writes-pla-settled}
 use Rattle.listing.specs.Listing.{Listed, Totalled}
 use Rattle.listing.proofs.Settled.{list-settled, total-settled}
+use Rattle.checking.specs.declared.Verdict.{Verdict}
+use Rattle.checking.proofs.Settled.{check-settled}
 use Rattle.vault.specs.declared.Reply.{Reply}
-use Rattle.vault.specs.Entries.{replied, HoldsBy, HoldsNoneBy, Put, ChangesBy, Changes, Tells, Lends, Compared, KeptAt, same}
+use Rattle.vault.specs.Entries.{valued, HoldsBy, HoldsNoneBy, Put, ChangesBy, Changes, TellsAs, Tells, Judges, Lends, Compared, KeptAt, same}
 
 -- what is read, by a way of reading that gives one answer at most
 
@@ -25,11 +27,10 @@ module _ {R : Read → Type 0} (alone : (a b : Read) → R a → R b → a ≡ b
   one-sheet : {s u : Sheet} → HoldsBy R s → HoldsBy R u → s ≡ u
   one-sheet p q = sym (p .sheet) ∙ ap (λ (a : Read). a .sheet) (alone _ _ (p .reads) (q .reads)) ∙ q .sheet
 
-  one-refusal : {r z : Reply} → HoldsNoneBy R r → HoldsNoneBy R z → r ≡ z
-  one-refusal p q =
-      p .reply ∙ ap (λ (a : Read). record { answer = a .number; place = a .place; value = 0 }) (alone _ _ (p .reads) (q .reads)) ∙ sym (q .reply)
+  one-refusal : {A : Type 0} {refusal : Read → A} {r z : A} → HoldsNoneBy R refusal r → HoldsNoneBy R refusal z → r ≡ z
+  one-refusal {refusal = refusal} p q = p .reply ∙ ap refusal (alone _ _ (p .reads) (q .reads)) ∙ sym (q .reply)
 
-  not-both : {r : Reply} {s : Sheet} → HoldsNoneBy R r → HoldsBy R s → ⊥
+  not-both : {A : Type 0} {refusal : Read → A} {r : A} {s : Sheet} → HoldsNoneBy R refusal r → HoldsBy R s → ⊥
   not-both p q = p .bad (ap (λ (a : Read). a .number) (alone _ _ (p .reads) (q .reads)) ∙ q .good)
 
 stored-alone : (t : List ℕ) (a b : Read) → Reads mostMarks entries t a → Reads mostMarks entries t b → a ≡ b
@@ -37,14 +38,11 @@ stored-alone t a b = reads-settled
 
 -- what is written
 
-value-reply : {v w : Value} → v ≡ w → replied (v .number) (v .value) ≡ replied (w .number) (w .value)
-value-reply e = ap (λ (x : Value). replied (x .number) (x .value)) e
-
 pub put-settled : {a : Answer} {out x y : List ℕ} {r z : Reply} → Put a out r x → Put a out z y → (r ≡ z) × (x ≡ y)
 put-settled (Put.refused p) (Put.refused q) = (refl, refl)
 put-settled (Put.refused p) (Put.written q w) = absurd (p q)
 put-settled (Put.written p v) (Put.refused q) = absurd (q p)
-put-settled (Put.written p v) (Put.written q w) = let e = writes-settled v w in (value-reply (e .0), e .1)
+put-settled (Put.written p v) (Put.written q w) = let e = writes-settled v w in (ap valued (e .0), e .1)
 
 -- changes, values told, and lists lent
 
@@ -56,13 +54,13 @@ changes-by-settled alone (ChangesBy.called p v) (ChangesBy.unread q) = absurd (n
 changes-by-settled alone {call} {out} (ChangesBy.called {r = r} {later = x} p v) (ChangesBy.called q w) =
     put-settled (subst (λ (s : Sheet). Put (call s) out r x) (one-sheet alone p q) v) w
 
-pub tells-settled : {call : Sheet → Value → Type 0} → ((s : Sheet) (v w : Value) → call s v → call s w → v ≡ w)
-    → {t : List ℕ} {r z : Reply} → Tells call t r → Tells call t z → r ≡ z
-tells-settled one {t} (Tells.unread p) (Tells.unread q) = one-refusal (stored-alone t) p q
-tells-settled one {t} (Tells.unread p) (Tells.told q w) = absurd (not-both (stored-alone t) p q)
-tells-settled one {t} (Tells.told p v) (Tells.unread q) = absurd (not-both (stored-alone t) q p)
-tells-settled {call} one {t} (Tells.told {v = a} p v) (Tells.told q w) =
-    value-reply (one _ _ _ (subst (λ (s : Sheet). call s a) (one-sheet (stored-alone t) p q) v) w)
+pub tells-settled : {A B : Type 0} {refusal : Read → B} {reply : A → B} {call : Sheet → A → Type 0} → ((s : Sheet) (v w : A) → call s v → call s w → v ≡ w)
+    → {t : List ℕ} {r z : B} → TellsAs refusal reply call t r → TellsAs refusal reply call t z → r ≡ z
+tells-settled one {t} (TellsAs.unread p) (TellsAs.unread q) = one-refusal (stored-alone t) p q
+tells-settled one {t} (TellsAs.unread p) (TellsAs.told q w) = absurd (not-both (stored-alone t) p q)
+tells-settled one {t} (TellsAs.told p v) (TellsAs.unread q) = absurd (not-both (stored-alone t) q p)
+tells-settled {reply = reply} {call} one {t} (TellsAs.told {a = a} p v) (TellsAs.told q w) =
+    ap reply (one _ _ _ (subst (λ (s : Sheet). call s a) (one-sheet (stored-alone t) p q) v) w)
 
 pub lends-settled : {call : Sheet → List ℕ → Value → List ℕ → Type 0}
     → ((s : Sheet) (area : List ℕ) (v w : Value) (x y : List ℕ) → call s area v x → call s area w y → (v ≡ w) × (x ≡ y))
@@ -72,7 +70,7 @@ lends-settled one {t} (Lends.unread p) (Lends.lent q w) = absurd (not-both (stor
 lends-settled one {t} (Lends.lent p v) (Lends.unread q) = absurd (not-both (stored-alone t) q p)
 lends-settled {call} one {t} {area} (Lends.lent {v = a} {later = x} p v) (Lends.lent q w) =
     let e = one _ area _ _ _ _ (subst (λ (s : Sheet). call s area a x) (one-sheet (stored-alone t) p q) v) w in
-    (value-reply (e .0), e .1)
+    (ap valued (e .0), e .1)
 
 -- each entry
 
@@ -91,6 +89,9 @@ vault-total-settled = tells-settled (λ s v w. total-settled)
 
 pub vault-kept-settled : (k : Table) (b : ℕ) {t : List ℕ} {r z : Reply} → Tells (KeptAt k b) t r → Tells (KeptAt k b) t z → r ≡ z
 vault-kept-settled k b = tells-settled (λ s v w p q. p ∙ sym q)
+
+pub vault-check-settled : {t l : List ℕ} {r z : Verdict} → Judges t l r → Judges t l z → r ≡ z
+vault-check-settled = tells-settled (λ s v w. check-settled)
 
 pub vault-list-settled : {t area x y : List ℕ} {r z : Reply} → Lends (Listed mostMarks) t area r x → Lends (Listed mostMarks) t area z y → (r ≡ z) × (x ≡ y)
 vault-list-settled = lends-settled (λ s area v w x y. list-settled)

@@ -9,8 +9,9 @@ ghost use Rattle.sheet.specs.declared.Call.the-variants.{Enter, Leave, Receive,
 ghost use Rattle.listing.specs.Listing.{Listed, Totalled};
 ghost use Rattle.pla.specs.Answers.{ReadsPla, WritesPla};
 ghost use Rattle.times.specs.Answers.{Answered};
-ghost use Rattle.vault.specs.Entries.{Put, ChangesBy, Changes, Tells, Lends, Compared, KeptAt, same, replied};
+ghost use Rattle.vault.specs.Entries.{Put, ChangesBy, Changes, Tells, Judges, Lends, Compared, KeptAt, same, replied, noReply, noVerdict};
 ghost use Rattle.vault.specs.Parts.{AnswerTo, LaidAs};
+use checking::Verdict;
 use sheet::Answer;
 use sheet::Call;
 use sheet::Sheet;
@@ -28,7 +29,7 @@ pub struct Reply {
 
 // The reply to bytes that are no sheet.
 fn unread(r: Read) -> Reply
-    ensures { λ reply. ⌜ reply ≡ record { answer = r .number; place = r .place; value = 0 } ⌝ }
+    ensures { λ reply. ⌜ reply ≡ noReply r ⌝ }
 {
     Reply {
         answer: r.number,
@@ -301,6 +302,31 @@ pub extern "C" fn vault_before(first: &[u8], second: &[u8]) -> Reply
         number: 0,
         value: 0,
     })
+}
+
+// The verdict on bytes that are no sheet.
+fn unjudged(r: Read) -> Verdict
+    ensures { λ verdict. ⌜ verdict ≡ noVerdict r ⌝ }
+{
+    Verdict {
+        answer: r.number,
+        place: r.place,
+        fault: 0,
+        at: 0,
+    }
+}
+
+// Whether a lent list fits the class, and else its first fault.
+#[no_mangle]
+pub extern "C" fn vault_check_list(sheet: &[u8], list: &[u8]) -> Verdict
+    ensures { λ r. ⌜ Judges (now (sheet .entry)) (now (list .entry)) r ⌝ }
+{
+    let read = reading::read(sheet);
+    if read.number != 0 {
+        return unjudged(read);
+    }
+    let s = read.sheet;
+    checking::verdict_of(checking::check_sound(s, list))
 }
 
 // A running time, with its form.

@@ -6,12 +6,13 @@ use Rattle.sheet.specs.Sound.{Ready}
 use Rattle.sheet.specs.declared.Answer.{Answer}
 use Rattle.sheet.proofs.Keeps.{ready-kept}
 use Rattle.vault.specs.Entries.ChangesBy.{unread}
+use Rattle.vault.specs.Entries.{noReply}
 use Rattle.vault.proofs.Replies.{holds, holds-none, holds-long, holds-ready, put-called}
 use Rattle.vault.proofs.change.Statement.{statement}
 use Rattle.vault.proofs.change.Tie as tie
 
 returns : tie.Need-returns
-returns c = unread (holds-none _ (c .before .before .before .read .ensures) (c .before .if1 .taken) (c .unread .ensures))
+returns c = unread (holds-none noReply _ (c .before .before .before .read .ensures) (c .before .if1 .taken) (c .unread .ensures))
 
 put-requires : tie.Need-put-requires
 put-requires c κs =

@@ -3,12 +3,13 @@ use borrow.Author.Needs.{needs}
 use Rattle.sheet.proofs.Keeps.{class-of-ready}
 use Rattle.vault.specs.Entries.Lends.{unread}
 use Rattle.vault.specs.Parts.{LaidAs}
+use Rattle.vault.specs.Entries.{noReply}
 use Rattle.vault.proofs.Replies.{holds, holds-none, holds-ready, value-lent}
 use Rattle.vault.proofs.lend.Statement.{statement}
 use Rattle.vault.proofs.lend.Tie as tie
 
 returns : tie.Need-returns
-returns c = unread (holds-none _ (c .before .before .before .read .ensures) (c .before .if1 .taken) (c .unread .ensures))
+returns c = unread (holds-none noReply _ (c .before .before .before .read .ensures) (c .before .if1 .taken) (c .unread .ensures))
 
 lay-requires : tie.Need-lay-requires
 lay-requires c κs = class-of-ready (holds-ready _ (λ i. c .before .before .before .before .before .before .shared-slice-known .given i .fits) (c .before .before .before .before .read .ensures))

@@ -2,12 +2,13 @@
 use mathlib.Core.Path.{refl}
 use borrow.Author.Needs.{needs}
 use Rattle.vault.specs.Entries.ChangesBy.{unread}
+use Rattle.vault.specs.Entries.{noReply}
 use Rattle.vault.proofs.Replies.{holds, holds-none, put-called}
 use Rattle.vault.proofs.rewritten.Statement.{statement}
 use Rattle.vault.proofs.rewritten.Tie as tie
 
 returns : tie.Need-returns
-returns c = unread (holds-none (c .before .before .before .before .args .r) refl (c .before .if1 .taken) (c .unread .ensures))
+returns c = unread (holds-none noReply (c .before .before .before .before .args .r) refl (c .before .if1 .taken) (c .unread .ensures))
 
 returns-2 : tie.Need-returns-2
 returns-2 c = put-called _ (holds _ refl (c .before .before .before .before .before .if1 .left)) refl (c .before .before .put .ensures)

@@ -1,13 +1,14 @@
 -- The bytes hold a sound sheet, which answers, or none.
 use borrow.Author.Needs.{needs}
-use Rattle.vault.specs.Entries.Tells.{unread}
+use Rattle.vault.specs.Entries.TellsAs.{unread}
 use Rattle.vault.specs.Parts.{AnswerTo}
-use Rattle.vault.proofs.Replies.{holds, holds-none, holds-ready, value-told}
+use Rattle.vault.specs.Entries.{noReply, valued}
+use Rattle.vault.proofs.Replies.{holds, holds-none, holds-ready, told-as}
 use Rattle.vault.proofs.tell.Statement.{statement}
 use Rattle.vault.proofs.tell.Tie as tie
 
 returns : tie.Need-returns
-returns c = unread (holds-none _ (c .before .before .before .read .ensures) (c .before .if1 .taken) (c .unread .ensures))
+returns c = unread (holds-none noReply _ (c .before .before .before .read .ensures) (c .before .if1 .taken) (c .unread .ensures))
 
 answer-requires : tie.Need-answer-requires
 answer-requires c κs = holds-ready _ (λ i. c .before .before .before .before .shared-slice-known .given i .fits) (c .before .before .before .read .ensures)
@@ -15,7 +16,7 @@ answer-requires c κs = holds-ready _ (λ i. c .before .before .before .before .
 returns-2 : tie.Need-returns-2
 returns-2 c =
     let q = c .before .before .before .before .before .before .before .args .q in
-    value-told (AnswerTo q) (holds _ (c .before .before .before .before .before .read .ensures) (c .before .before .before .if1 .left)) (c .before .answer .ensures) (c .replied .ensures)
+    told-as noReply valued (AnswerTo q) (holds _ (c .before .before .before .before .before .read .ensures) (c .before .before .before .if1 .left)) (c .before .answer .ensures) (c .replied .ensures)
 
 pub tell-spec : {M : Type 1} → statement M
 tell-spec =
