@@ -87,6 +87,7 @@ module _ (m need : ℕ) (l : List ℕ) (small : need < 2 ^ 32) (i u : ℕ) (wide
       let s = bitAnd need (4294967295 - u) in
       let c = trailingZeros 32 s in
       let e : (has need c && has (4294967295 - u) c) ≡ true = sym (has-and c need (4294967295 - u)) ∙ zeros-has 32 s (omega (arith, and-le-l need (4294967295 - u))) n in
-      let y = and-left (has need c) _ e in
-      ((y, if (covered m l c) (λ k. clash (and-right (has need c) _ e) (uncovered-is c y ∙ ap not k)) (λ k. k)),
-      λ d h x. clash (uncovered-has d x) (zeros-below 32 s d h))
+      let y = and-left (has need c) _ e in (
+        (y, if (covered m l c) (λ k. clash (and-right (has need c) _ e) (uncovered-is c y ∙ ap not k)) (λ k. k)),
+        λ d h x. clash (uncovered-has d x) (zeros-below 32 s d h),
+      )

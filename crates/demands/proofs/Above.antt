@@ -2,6 +2,7 @@
 use Rattle.sheet.proofs.Above.{did-alike, did-above}
 use Rattle.sheet.proofs.Agrees.{size-alike}
 use Rattle.listing.proofs.Agrees.{list-alike, total-alike}
+use Rattle.checking.proofs.Agrees.{check-alike}
 use Rattle.stored.proofs.Agrees.{writes-alike}
 use Rattle.pla.proofs.Agrees.{writes-pla-alike}
 use Rattle.demands.specs.Above.{Above}
@@ -12,6 +13,7 @@ above = record {
     did = did-alike s u a ls lu;
     class-size = size-alike a;
     list = list-alike a;
+    check = check-alike a;
     total = total-alike a;
     write = writes-alike a;
     write-pla = writes-pla-alike a;

@@ -30,9 +30,13 @@ use Rattle.times.specs.Answers.{readingOf, Answered}
 use Rattle.times.specs.declared.Time.{Time}
 use Rattle.times.specs.declared.Reading.{Reading}
 use Rattle.times.specs.declared.Time.the-variants.{Value as Read-value, Fault}
-use Rattle.vault.specs.Entries.{HoldsNoneBy, Put, ChangesBy, Tells, Lends, Compared, KeptAt, same}
+use Rattle.checking.specs.Answers.{verdictOf}
+use Rattle.checking.specs.declared.Finding.{Finding}
+use Rattle.checking.specs.declared.Finding.the-variants.{Spoiled, Fitting, Faulty}
+use Rattle.checking.specs.declared.Verdict.{Verdict}
+use Rattle.vault.specs.Entries.{noReply, HoldsNoneBy, Put, ChangesBy, TellsAs, Tells, Judges, Lends, Compared, KeptAt, same}
 use Rattle.vault.specs.declared.Reply.{Reply}
-use Rattle.demands.specs.Calls.{Told, Lent, nothing, sheet, bytes, ofNumber, ofValue, ofRead, ofReading, ofReply, Made}
+use Rattle.demands.specs.Calls.{Told, Lent, nothing, sheet, bytes, ofNumber, ofValue, ofRead, ofReading, ofVerdict, ofReply, Made}
 use Rattle.demands.specs.Demand1.{Refuses, Demand1}
 
 -- a value of 0, or two, or none
@@ -149,12 +153,13 @@ answer-refuses {l = l} a = subst (λ (x : Reading). Refuses (ofReading x) l l) (
 
 -- the entries for C
 
--- a reading's refusal as a reply
-no-sheet : {n p : ℕ} {l : Lent} → Refuses (record { answer = n; place = p; values = [] }) l l → Refuses (record { answer = n; place = p; values = 0 ∷ [] }) l l
-no-sheet x = record { of-table = x .of-table; leaves = x .leaves; no-value = λ n. nought; no-place = x .no-place }
+-- a reading's refusal as a reply, whose values are 0
+no-sheet : {n p : ℕ} (v : List ℕ) {l : Lent} → ((i : ℕ) → getD v i 0 ≡ 0) → Refuses (record { answer = n; place = p; values = [] }) l l
+    → Refuses (record { answer = n; place = p; values = v }) l l
+no-sheet v z x = record { of-table = x .of-table; leaves = x .leaves; no-value = λ n. z; no-place = x .no-place }
 
-unread-refuses : {R : Read → Type 0} {l : Lent} → ((a : Read) → R a → Refuses (ofRead a) l l) → {r : Reply} → HoldsNoneBy R r → Refuses (ofReply r) l l
-unread-refuses {l = l} refuses h = subst (λ (x : Reply). Refuses (ofReply x) l l) (sym (h .reply)) (no-sheet (refuses (h .read) (h .reads)))
+unread-refuses : {R : Read → Type 0} {l : Lent} → ((a : Read) → R a → Refuses (ofRead a) l l) → {r : Reply} → HoldsNoneBy R noReply r → Refuses (ofReply r) l l
+unread-refuses {l = l} refuses h = subst (λ (x : Reply). Refuses (ofReply x) l l) (sym (h .reply)) (no-sheet (0 ∷ []) nought (refuses (h .read) (h .reads)))
 
 put-refuses : (a : Answer) {out later : List ℕ} {r : Reply} → a .number ≤ 10 → Put a out r later → Refuses (ofReply r) (bytes out) (bytes later)
 put-refuses a h (Put.refused n) = left h nought
@@ -167,14 +172,24 @@ change-refuses call h refuses (ChangesBy.called {s = s} k p) = put-refuses (call
 
 tell-refuses : (call : Sheet → Value → Type 0) → ((s : Sheet) (v : Value) → call s v → Refuses (ofValue v) nothing nothing) → {t : List ℕ} {r : Reply}
     → Tells call t r → Refuses (ofReply r) nothing nothing
-tell-refuses call h (Tells.unread u) = unread-refuses read-refuses u
-tell-refuses call h (Tells.told k w) = h _ _ w
+tell-refuses call h (TellsAs.unread u) = unread-refuses read-refuses u
+tell-refuses call h (TellsAs.told k w) = h _ _ w
 
 lend-refuses : (call : Sheet → List ℕ → Value → List ℕ → Type 0) {t area later : List ℕ} {r : Reply}
     → ((s : Sheet) (v : Value) → call s area v later → Refuses (ofValue v) (bytes area) (bytes later)) → Lends call t area r later
     → Refuses (ofReply r) (bytes area) (bytes later)
 lend-refuses call h (Lends.unread u) = unread-refuses read-refuses u
 lend-refuses call h (Lends.lent k w) = h _ _ w
+
+finding-refuses : (x : Finding) → Refuses (ofVerdict (verdictOf x)) nothing nothing
+finding-refuses Spoiled = left (omega arith) noughts
+finding-refuses Fitting = done refl
+finding-refuses (Faulty f i) = done refl
+
+judge-refuses : {t l : List ℕ} {r : Verdict} → Judges t l r → Refuses (ofVerdict r) nothing nothing
+judge-refuses (TellsAs.unread u) =
+    subst (λ (x : Verdict). Refuses (ofVerdict x) nothing nothing) (sym (u .reply)) (no-sheet (0 ∷ 0 ∷ []) noughts (read-refuses (u .read) (u .reads)))
+judge-refuses (TellsAs.told {a = x} k w) = finding-refuses x
 
 kept-refuses : (k : Table) (b : ℕ) (s : Sheet) (v : Value) → KeptAt k b s v → Refuses (ofValue v) nothing nothing
 kept-refuses k b s v e = subst (λ (x : Value). Refuses (ofValue x) nothing nothing) (sym e) (done refl)
@@ -196,6 +211,7 @@ every (Made.opens m) = open-as (λ (a : Answer). Refuses (ofNumber (a .number)) 
 every (Made.did s k) = did-refuses s k
 every (Made.class-size w) = size-refuses w
 every (Made.list w) = list-refuses w
+every (Made.check {x = x} w) = finding-refuses x
 every (Made.total w) = total-refuses w
 every (Made.read {a = a} x) = read-refuses a x
 every (Made.write w) = write-refuses w
@@ -209,6 +225,7 @@ every (Made.vault-copy c) = change-refuses same (λ s. omega arith) read-refuses
 every (Made.vault-read-pla c) = change-refuses same (λ s. omega arith) read-pla-refuses c
 every (Made.vault-write-pla w) = lend-refuses (WritesPla mostMarks) (λ s v. write-pla-refuses) w
 every (Made.vault-list w) = lend-refuses (Listed mostMarks) (λ s v. list-refuses) w
+every (Made.vault-check-list w) = judge-refuses w
 every (Made.vault-class-size w) = tell-refuses (ClassSize mostMarks) (λ s v. size-refuses) w
 every (Made.vault-total w) = tell-refuses (Totalled mostMarks) (λ s v. total-refuses) w
 every (Made.vault-kept k b w) = tell-refuses (KeptAt k b) (kept-refuses k b) w

@@ -40,7 +40,7 @@ use Rattle.histories.proofs.Afresh.{list-afresh, total-afresh, size-afresh}
 use Rattle.histories.proofs.Goods.{good-opened}
 use Rattle.histories.proofs.Histories.{sheet-afresh, answers-afresh, good-all}
 use Rattle.histories.proofs.Travels.{good-read, good-events, lives-afresh}
-use Rattle.vault.specs.Entries.{replied, Tells, Lends, KeptAt}
+use Rattle.vault.specs.Entries.{replied, TellsAs, Tells, Lends, KeptAt}
 use Rattle.vault.specs.Sequences.{Entry, Serves, entryNumber, afterEntry}
 use Rattle.vault.specs.declared.Reply.{Reply}
 use Rattle.vault.proofs.Sequences.{holds-record, holds-some, serves-afresh, good-entries, open-begins, read-begins}
@@ -77,8 +77,8 @@ module _ (r : Record) (g : Good r) where
 
   told : (call : Sheet → Value → Type 0) (n : ℕ) → ((v : Value) → call (sheetOf entries r) v → v ≡ record { number = 0; value = n }) → {reply : Reply}
       → Tells call (form r) reply → reply ≡ replied 0 n
-  told call n is (Tells.unread u) = absurd (holds-some r g u)
-  told call n is (Tells.told {v = v} h w) =
+  told call n is (TellsAs.unread u) = absurd (holds-some r g u)
+  told call n is (TellsAs.told {a = v} h w) =
       ap (λ (x : Value). replied (x .number) (x .value)) (is v (subst (λ (s : Sheet). call s v) (holds-record r g h) w))
 
   lent : {area later : List ℕ} {reply : Reply} → 2 ^ r .marks ≤ length area → Lends (Listed mostMarks) (form r) area reply later

@@ -8,6 +8,8 @@ use Rattle.sheet.specs.declared.Call.{Call}
 use Rattle.sheet.specs.declared.Sheet.{Sheet}
 use Rattle.sheet.specs.declared.Value.{Value}
 use Rattle.listing.specs.Listing.{Listed, Totalled}
+use Rattle.checking.specs.Answers.{Checked}
+use Rattle.checking.specs.declared.Finding.{Finding}
 use Rattle.stored.specs.Answers.{Writes}
 use Rattle.pla.specs.Answers.{WritesPla}
 
@@ -15,6 +17,7 @@ pub record NotRead (s u : Sheet) : Type 0 where
   pub did : (k : Call) → Alike (didOf mostMarks s k) (didOf mostMarks u k)
   pub class-size : {v : Value} → ClassSize mostMarks s v → ClassSize mostMarks u v
   pub list : {area later : List ℕ} {v : Value} → Listed mostMarks s area v later → Listed mostMarks u area v later
+  pub check : {l : List ℕ} {x : Finding} → Checked mostMarks s l x → Checked mostMarks u l x
   pub total : {v : Value} → Totalled mostMarks s v → Totalled mostMarks u v
   pub write : {out later : List ℕ} {v : Value} → Writes mostMarks s out v later → Writes mostMarks u out v later
   pub write-pla : {out later : List ℕ} {v : Value} → WritesPla mostMarks s out v later → WritesPla mostMarks u out v later

@@ -17,7 +17,10 @@ use Rattle.times.specs.Places.{ReadsAs}
 use Rattle.times.specs.Answers.{readingOf, Answered}
 use Rattle.times.specs.declared.Time.{Time}
 use Rattle.times.specs.declared.Reading.{Reading}
-use Rattle.vault.specs.Entries.{Put, ChangesBy, Changes, Tells, Lends, Compared, KeptAt, same}
+use Rattle.checking.specs.Answers.{Checked, verdictOf}
+use Rattle.checking.specs.declared.Finding.{Finding}
+use Rattle.checking.specs.declared.Verdict.{Verdict}
+use Rattle.vault.specs.Entries.{Put, ChangesBy, Changes, Tells, Judges, Lends, Compared, KeptAt, same}
 use Rattle.vault.specs.declared.Reply.{Reply}
 
 -- What a caller lends to be changed and has back: nothing, a sheet, or bytes. What is lent to be read alone cannot change.
@@ -44,6 +47,9 @@ ofRead a = record { answer = a .number; place = a .place; values = [] }
 abbrev pub ofReading : Reading → Told
 ofReading r = record { answer = r .answer; place = r .place; values = r .value ∷ r .form ∷ [] }
 
+abbrev pub ofVerdict : Verdict → Told
+ofVerdict r = record { answer = r .answer; place = r .place; values = r .fault ∷ r .at ∷ [] }
+
 abbrev pub ofReply : Reply → Told
 ofReply r = record { answer = r .answer; place = r .place; values = r .value ∷ [] }
 
@@ -55,6 +61,7 @@ pub data Made : Told → (before after : Lent) → Type 0 where
   did : (s : Sheet) (k : Call) → Made (ofNumber (didOf mostMarks s k .number)) (sheet s) (sheet (didOf mostMarks s k .sheet))
   class-size : {s : Sheet} {v : Value} → ClassSize mostMarks s v → Made (ofValue v) nothing nothing
   list : {s : Sheet} {area later : List ℕ} {v : Value} → Listed mostMarks s area v later → Made (ofValue v) (bytes area) (bytes later)
+  check : {s : Sheet} {l : List ℕ} {x : Finding} → Checked mostMarks s l x → Made (ofVerdict (verdictOf x)) nothing nothing
   total : {s : Sheet} {v : Value} → Totalled mostMarks s v → Made (ofValue v) nothing nothing
   read : {t : List ℕ} {a : Read} → Reads mostMarks entries t a → Made (ofRead a) nothing nothing
   write : {s : Sheet} {out later : List ℕ} {v : Value} → Writes mostMarks s out v later → Made (ofValue v) (bytes out) (bytes later)
@@ -69,6 +76,7 @@ pub data Made : Told → (before after : Lent) → Type 0 where
   vault-read-pla : {t out later : List ℕ} {r : Reply} → ChangesBy (ReadsPla mostMarks entries t) same out r later → Made (ofReply r) (bytes out) (bytes later)
   vault-write-pla : {t out later : List ℕ} {r : Reply} → Lends (WritesPla mostMarks) t out r later → Made (ofReply r) (bytes out) (bytes later)
   vault-list : {t area later : List ℕ} {r : Reply} → Lends (Listed mostMarks) t area r later → Made (ofReply r) (bytes area) (bytes later)
+  vault-check-list : {t l : List ℕ} {r : Verdict} → Judges t l r → Made (ofVerdict r) nothing nothing
   vault-class-size : {t : List ℕ} {r : Reply} → Tells (ClassSize mostMarks) t r → Made (ofReply r) nothing nothing
   vault-total : {t : List ℕ} {r : Reply} → Tells (Totalled mostMarks) t r → Made (ofReply r) nothing nothing
   vault-kept : (k : Table) (b : ℕ) {t : List ℕ} {r : Reply} → Tells (KeptAt k b) t r → Made (ofReply r) nothing nothing

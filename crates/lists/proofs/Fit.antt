@@ -1,7 +1,7 @@
 -- Fitting lists, a box at a time: a list with a box in front fits exactly if the box lies in the room and the rest fits what the box leaves.
 use mathlib.Core.Path.{_≡_, refl, sym, ap, _∙_}
 use mathlib.Core.Bool.{Bool, true, false, not, _&&_, _||_, or-true, false≢true}
-use mathlib.Core.List.{List, [], _∷_}
+use mathlib.Core.List.{List, [], _∷_, _++_}
 use Prim.Native.Nat.{ℕ, zero, suc, _+_, _^_, _<_, _≤_, zero-le}
 use native.Mathlib.Omega.{arith}
 use lib.ListN.{length}
@@ -127,6 +127,27 @@ module _ (m : ℕ) where
         same-times = λ d. omega (arith, r .same-times d);
         size = ap suc (r .size);
         boxes = λ b. (r .boxes (b .1) .0, (b .0, r .boxes (b .1) .1));
+      })
+
+  -- two neighbours change places
+  swapped-times : (k : List ℕ) (a b : ℕ) (l : List ℕ) (c : ℕ) → times m (k ++ b ∷ a ∷ l) c ≡ times m (k ++ a ∷ b ∷ l) c
+  unfolding times sumOver
+  swapped-times [] a b l c = omega arith
+  swapped-times (d ∷ k) a b l c = omega (arith, swapped-times k a b l c)
+
+  swapped-boxes : (k : List ℕ) (a b : ℕ) (l : List ℕ) → Boxes m (k ++ a ∷ b ∷ l) → Boxes m (k ++ b ∷ a ∷ l)
+  unfolding Boxes
+  swapped-boxes [] a b l h = (h .1 .0, (h .0, h .1 .1))
+  swapped-boxes (d ∷ k) a b l h = (h .0, swapped-boxes k a b l (h .1))
+
+  pub fits-swapped : {need room : ℕ → Bool} (k : List ℕ) (a b : ℕ) (l : List ℕ) → Fits m need room (k ++ a ∷ b ∷ l) → Fits m need room (k ++ b ∷ a ∷ l)
+  fits-swapped k a b l f =
+      let g = counted m f in
+      fits-counted m (record {
+        boxes = swapped-boxes k a b l (g .boxes);
+        once = λ c. omega (arith, swapped-times k a b l c, g .once c);
+        covers = λ c e. swapped-times k a b l c ∙ g .covers c e;
+        inside = λ c e. swapped-times k a b l c ∙ g .inside c e;
       })
 
   -- a fitting list with the box on a needed combination in front

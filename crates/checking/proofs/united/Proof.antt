@@ -48,8 +48,7 @@ returns c =
 loop-again : tie.Need-loop-again Inv-loop μ-loop
 loop-again c =
     let set = c .before .before .before .before .before .pre .1 _ (box (c .before .before .before)) in
-    let h = c .before .before .before .loop-test .taken in
-    (
+    let h = c .before .before .before .loop-test .taken in (
       omega (arith, h),
       passed-more _ _ (c .before .before .before .before .loop .inv .1) (overlaps-not _ _ _ _ h (set .0) (set .1) _ (c .before .before .before .before .loop .inv .2) (c .if1 .left)),
       covers-more _ _ _ _ h (set .0) (set .1) _ (c .before .before .before .before .loop .inv .2),
