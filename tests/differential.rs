@@ -802,5 +802,5 @@ fn main() {
     println!("running times that were read: {} in minutes, {} in hours", forms[MINUTES as usize], forms[HOURS as usize]);
     let [fit, no_box, overlap, leaves, uncovered] = [FITS, NO_BOX, OVERLAP, LEAVES, UNCOVERED].map(|f| faults[f as usize]);
     println!("lists that were checked: {fit} fit, {no_box} have no box, {overlap} overlap, {leaves} leave the class, {uncovered} do not cover it");
-    println!("differential: lists, PLA texts and checks of all {classes} classes of up to four marks, {calls} random calls: no difference (seed {seed})");
+    println!("differential: all {classes} classes of up to four marks, and {calls} random calls compared, no difference (seed {seed})");
 }
