@@ -541,26 +541,38 @@ static void two_faults(void)
             }
 }
 
-/* The lines of single combinations, as many as there are, in both orders: all fit, and each one that is gone is told. */
-static void every_gap(uint64_t marks)
+/* The lines of all single combinations, upwards or downwards. */
+static void singles(uint64_t marks, int down, uint8_t *list)
 {
-    uint8_t list[VAULT_MOST_COMBINATIONS], less[VAULT_MOST_COMBINATIONS];
+    uint32_t size = VAULT_COMBINATIONS(marks);
+    for (uint32_t b = 0; b < VAULT_LINES(marks); b++)
+        for (uint32_t c = 0; c < size; c++)
+            if (sets[marks][b] == UINT32_C(1) << c)
+                list[down ? size - 1 - c : c] = (uint8_t)b;
+}
+
+/* They fit; each two that are gone are told, each one that is there twice, each that is outside the class, and each line behind them all. */
+static void every_gap(uint64_t marks, int down)
+{
+    uint8_t list[VAULT_MOST_COMBINATIONS + 1], other[VAULT_MOST_COMBINATIONS];
     uint32_t size = VAULT_COMBINATIONS(marks), all = (uint32_t)((UINT64_C(1) << size) - 1);
-    for (int down = 0; down < 2; down++) {
-        for (uint32_t b = 0; b < VAULT_LINES(marks); b++)
-            for (uint32_t c = 0; c < size; c++)
-                if (sets[marks][b] == UINT32_C(1) << c)
-                    list[down ? size - 1 - c : c] = (uint8_t)b;
-        recount(marks, all, list, size, "all combinations");
-        for (uint32_t i = 0; i < size; i++)
-            for (uint32_t j = i; j < size; j++) {
-                uint32_t n = 0;
-                for (uint32_t k = 0; k < size; k++)
-                    if (k != i && k != j)
-                        less[n++] = list[k];
-                recount(marks, all, less, n, "two combinations left out");
-                recount(marks, all & ~(UINT32_C(1) << i), list, size, "a combination outside");
-            }
+    singles(marks, down, list);
+    recount(marks, all, list, size, "all combinations");
+    for (uint32_t i = 0; i < size; i++)
+        for (uint32_t j = i; j < size; j++) {
+            uint32_t n = 0;
+            for (uint32_t k = 0; k < size; k++)
+                if (k != i && k != j)
+                    other[n++] = list[k];
+            recount(marks, all, other, n, "two combinations left out");
+            memcpy(other, list, size);
+            other[j] = list[i];
+            recount(marks, all, other, size, "a combination twice");
+            recount(marks, all & ~(UINT32_C(1) << i | UINT32_C(1) << j), list, size, "two combinations outside");
+        }
+    for (uint32_t b = 0; b < 256; b++) {
+        list[size] = (uint8_t)b;
+        recount(marks, all, list, size + 1, "a line behind them all");
     }
 }
 
@@ -655,7 +667,8 @@ static void checking(void)
     for (uint64_t m = 1; m <= 5; m++) {
         every_value(m);
         every_two(m);
-        every_gap(m);
+        every_gap(m, 0);
+        every_gap(m, 1);
     }
     two_faults();
     long_lists();
