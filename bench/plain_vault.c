@@ -168,6 +168,51 @@ struct vault_reply plain_total(const uint8_t *sheet, size_t n)
     return r;
 }
 
+/* ---- lists that others drew: a pass for the numbers, and one for the rest */
+
+static uint32_t set_of(unsigned marks, unsigned b)
+{
+    uint32_t s = 1;
+    for (unsigned i = 0; i < marks; i++, b /= 3)
+        s = b % 3 == 2 ? s | s << (1u << i) : s << (b % 3 << i);
+    return s;
+}
+
+static struct vault_verdict verdict(struct vault_reply read, uint64_t fault, uint64_t at)
+{
+    struct vault_verdict v = {read.answer, read.place, fault, at};
+    return v;
+}
+
+static struct vault_verdict checked(struct vault_reply read, unsigned marks, uint32_t class, const uint8_t *list, size_t n)
+{
+    size_t leaves = n;
+    uint32_t covered = 0;
+    for (size_t i = 0; i < n; i++)
+        if (list[i] >= VAULT_LINES(marks))
+            return verdict(read, VAULT_NO_BOX, i);
+    for (size_t i = 0; i < n; i++) {
+        uint32_t set = set_of(marks, list[i]);
+        if ((set & covered) != 0)
+            return verdict(read, VAULT_OVERLAP, i);
+        if ((set & ~class) != 0 && leaves == n)
+            leaves = i;
+        covered |= set;
+    }
+    if (leaves < n)
+        return verdict(read, VAULT_LEAVES, leaves);
+    if (covered != class)
+        return verdict(read, VAULT_UNCOVERED, (uint64_t)__builtin_ctz(class & ~covered));
+    return verdict(read, VAULT_FITS, 0);
+}
+
+struct vault_verdict plain_check_list(const uint8_t *sheet, size_t n, const uint8_t *list, size_t lines)
+{
+    struct sheet s;
+    struct vault_reply r = get(&s, sheet, n);
+    return r.answer == VAULT_DONE ? checked(r, s.marks, s.class, list, lines) : verdict(r, VAULT_FITS, 0);
+}
+
 /* ---- PLA texts, in one pass */
 
 struct drawing {
@@ -487,6 +532,13 @@ struct vault_reply tables_list(const uint8_t *sheet, size_t n, uint8_t *list, si
     struct kept k;
     struct vault_reply r = get_kept(&k, sheet, n);
     return r.answer == VAULT_DONE ? searched(k.marks, class_of(&k), list, room) : r;
+}
+
+struct vault_verdict tables_check_list(const uint8_t *sheet, size_t n, const uint8_t *list, size_t lines)
+{
+    struct kept k;
+    struct vault_reply r = get_kept(&k, sheet, n);
+    return r.answer == VAULT_DONE ? checked(r, k.marks, class_of(&k), list, lines) : verdict(r, VAULT_FITS, 0);
 }
 
 struct vault_reply tables_class_size(const uint8_t *sheet, size_t n)

@@ -7,6 +7,7 @@ struct vault_reply plain_copy(const uint8_t *sheet, size_t n, uint8_t *out, size
 struct vault_reply plain_list(const uint8_t *sheet, size_t n, uint8_t *list, size_t room);
 struct vault_reply plain_class_size(const uint8_t *sheet, size_t n);
 struct vault_reply plain_total(const uint8_t *sheet, size_t n);
+struct vault_verdict plain_check_list(const uint8_t *sheet, size_t n, const uint8_t *list, size_t lines);
 struct vault_reply plain_read_pla(const void *text, size_t n, uint8_t *out, size_t room);
 struct vault_reply plain_write_pla(const uint8_t *sheet, size_t n, void *out, size_t room);
 
@@ -15,5 +16,6 @@ struct vault_reply tables_copy(const uint8_t *sheet, size_t n, uint8_t *out, siz
 struct vault_reply tables_list(const uint8_t *sheet, size_t n, uint8_t *list, size_t room);
 struct vault_reply tables_class_size(const uint8_t *sheet, size_t n);
 struct vault_reply tables_total(const uint8_t *sheet, size_t n);
+struct vault_verdict tables_check_list(const uint8_t *sheet, size_t n, const uint8_t *list, size_t lines);
 struct vault_reply tables_read_pla(const void *text, size_t n, uint8_t *out, size_t room);
 struct vault_reply tables_write_pla(const uint8_t *sheet, size_t n, void *out, size_t room);

@@ -1,4 +1,5 @@
-/* The library's times beside those of plain C for the same jobs, and of glpk for the list: sheets of five marks in their stored form, and PLA texts, one table.
+/* The library's times beside those of plain C for the same jobs, and of glpk for the list: sheets of five marks in their stored form, lists that are checked,
+   and PLA texts, one table.
 
    Each job is done on each sheet in every round, by each version in turn. Of a sheet the least processor time counts, so that what else runs on the
    machine shows little; mean and worst are over the sheets. All replies and all that was written are compared; glpk tells only the length of the list. */
@@ -11,7 +12,7 @@
 #include <string.h>
 #include <time.h>
 
-enum { CLASSES = 20000, HARD = 15, PAIRS = 2000, SHEETS = 500, TEXTS = 3, VERSIONS = 4 };
+enum { CLASSES = 20000, HARD = 15, PAIRS = 2000, SHEETS = 500, TEXTS = 3, LINES = 1000000, VERSIONS = 4 };
 
 struct form {
     uint32_t class, room;
@@ -20,9 +21,11 @@ struct form {
     uint64_t c, seconds;
     const char *text; /* a PLA text, if there is one */
     size_t text_size;
+    const uint8_t *list; /* a list that is checked, if there is one */
+    size_t lines;
 };
 
-static struct form random_classes[CLASSES], hard[HARD], pairs[PAIRS], texts[TEXTS];
+static struct form random_classes[CLASSES], hard[HARD], pairs[PAIRS], texts[TEXTS], million;
 
 typedef struct vault_reply job(const struct form *f, uint8_t *out);
 
@@ -111,6 +114,23 @@ static int make_texts(void)
     return 1;
 }
 
+/* Lists to check: for the first classes their own, and a million lines of which the last is none, so that all of them are passed. */
+static void make_lists(void)
+{
+    static uint8_t own[SHEETS][VAULT_LIST_SIZE], many[LINES];
+    for (int i = 0; i < SHEETS; i++) {
+        struct form *f = &random_classes[i];
+        f->list = own[i];
+        f->lines = (size_t)vault_list(f->bytes, f->n, own[i], VAULT_LIST_SIZE).value;
+    }
+    for (int i = 0; i < LINES; i++)
+        many[i] = (uint8_t)(i % VAULT_MOST_LINES);
+    many[LINES - 1] = VAULT_MOST_LINES;
+    make(&million, 0xffffffff, 0);
+    million.list = many;
+    million.lines = LINES;
+}
+
 /* ---- the jobs: by the library, by plain C in the same steps, by plain C that keeps no numbers, by glpk */
 
 /* crates/seek_c: a slice is a pointer and a length */
@@ -119,6 +139,13 @@ size_t seek_shortest(size_t marks, uint32_t need, uint32_t room, uint8_t *area, 
 static struct vault_reply value(size_t n)
 {
     struct vault_reply r = {VAULT_DONE, 0, n};
+    return r;
+}
+
+/* Fault and place in one number, to be compared. */
+static struct vault_reply verdict(struct vault_verdict v)
+{
+    struct vault_reply r = {v.answer, v.place, v.at * 8 + v.fault};
     return r;
 }
 
@@ -146,6 +173,9 @@ JOB(size_p, plain_class_size(f->bytes, f->n))
 JOB(copy, vault_copy(f->bytes, f->n, out, VAULT_FORM_SIZE))
 JOB(copy_s, tables_copy(f->bytes, f->n, out, VAULT_FORM_SIZE))
 JOB(copy_p, plain_copy(f->bytes, f->n, out, VAULT_FORM_SIZE))
+JOB(check, verdict(vault_check_list(f->bytes, f->n, f->list, f->lines)))
+JOB(check_s, verdict(tables_check_list(f->bytes, f->n, f->list, f->lines)))
+JOB(check_p, verdict(plain_check_list(f->bytes, f->n, f->list, f->lines)))
 JOB(pla_write, vault_write_pla(f->bytes, f->n, out, VAULT_PLA_SIZE))
 JOB(pla_write_s, tables_write_pla(f->bytes, f->n, out, VAULT_PLA_SIZE))
 JOB(pla_write_p, plain_write_pla(f->bytes, f->n, out, VAULT_PLA_SIZE))
@@ -156,10 +186,11 @@ JOB(pla_read_p, plain_read_pla(f->text, f->text_size, out, VAULT_FORM_SIZE))
 #define MS 1e6
 #define US 1e3
 #define A_BYTE 0
+#define A_LINE (-1)
 
 struct row {
     const char *name;
-    double unit; /* in nanoseconds; A_BYTE: nanoseconds for each byte of the text */
+    double unit; /* in nanoseconds; A_BYTE: nanoseconds for each byte of the text; A_LINE: for each line of the list */
     const struct form *forms;
     int n, rounds, times; /* how often a job is done on a sheet in a row, before the next sheet */
     job *jobs[VERSIONS];
@@ -173,6 +204,8 @@ static const struct row rows[] = {
     {"total, us", US, random_classes, SHEETS, 10, 100, {total, total_s, total_p, NULL}},
     {"class size, us", US, random_classes, SHEETS, 10, 100, {size, size_s, size_p, NULL}},
     {"read and write (copy), us", US, random_classes, SHEETS, 10, 100, {copy, copy_s, copy_p, NULL}},
+    {"check of a list that fits, us", US, random_classes, SHEETS, 10, 100, {check, check_s, check_p, NULL}},
+    {"check of a million, ns a line", A_LINE, &million, 1, 50, 1, {check, check_s, check_p, NULL}},
     {"list as PLA, 500 classes, ms", MS, random_classes, SHEETS, 10, 1, {pla_write, pla_write_s, pla_write_p, NULL}},
     {"PLA of 243 cubes, us", US, &texts[0], 1, 100, 10, {pla_read, pla_read_s, pla_read_p, NULL}},
     {"    the same, ns a byte", A_BYTE, &texts[0], 1, 100, 10, {pla_read, pla_read_s, pla_read_p, NULL}},
@@ -194,13 +227,14 @@ static int differ(const struct row *r, int v)
     return wrong;
 }
 
-static double once(job *j, const struct form *f, int times)
+/* In units. */
+static double once(job *j, const struct form *f, int times, double unit)
 {
     uint8_t out[VAULT_FORM_SIZE];
     double from = now();
     for (int i = 0; i < times; i++)
         j(f, out);
-    return (now() - from) / times;
+    return (now() - from) / times / (unit == A_BYTE ? (double)f->text_size : unit == A_LINE ? (double)f->lines : unit);
 }
 
 /* Prints the row, and returns how much differed. */
@@ -212,7 +246,7 @@ static int measure(const struct row *r)
     for (int k = 0; k < r->rounds; k++)
         for (int v = 0; v < VERSIONS; v++)
             for (int i = 0; r->jobs[v] != NULL && i < r->n; i++) {
-                double took = once(r->jobs[v], &r->forms[i], r->times) / (r->unit == A_BYTE ? (double)r->forms[i].text_size : r->unit);
+                double took = once(r->jobs[v], &r->forms[i], r->times, r->unit);
                 least[v][i] = k == 0 || took < least[v][i] ? took : least[v][i];
             }
     printf("%-33s", r->name);
@@ -256,6 +290,7 @@ int main(void)
 {
     int wrong = 0;
     make_all();
+    make_lists();
     if (!make_texts()) {
         fprintf(stderr, "no memory\n");
         return 1;

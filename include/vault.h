@@ -3,8 +3,8 @@
  *
  * A sheet says, for 1 to 5 marks, which combinations of marks are in the class and how many seconds of film each combination holds. A
  * combination is the sum of 2^i over the marks i that are on, 0 to 2^m - 1. A line is a box: each mark has a digit, 0 off, 1 on, 2 free, and the
- * line's number is the sum of digit * 3^i, 0 to 3^m - 1; it contains every combination that agrees with its digits 0 and 1. A list is the
- * shortest list of lines that together contain the class and nothing else, no combination twice, in rising order of each line's lowest
+ * line's number is the sum of digit * 3^i, 0 to 3^m - 1; it contains every combination that agrees with its digits 0 and 1. The list of a
+ * class is the shortest list of lines that together contain the class and nothing else, no combination twice, in rising order of each line's lowest
  * combination, and the first such list by line numbers.
  *
  * A program keeps a sheet in its stored form: bytes, to be written to a file as they are, the same on every machine.
@@ -22,10 +22,11 @@
  * behind what was written stays as it was. An area that always suffices has VAULT_FORM_SIZE bytes for a stored form, VAULT_LIST_SIZE bytes for
  * a list, and VAULT_PLA_SIZE bytes for a PLA text that is written.
  *
- * Replies. Every entry but vault_read_time returns a struct vault_reply: an answer, a place and a value. vault_read_time returns a struct vault_time,
- * which has these three in front, under the same rules, and a form behind them. The place is 0 for every answer but VAULT_UNREADABLE; the value is 0
- * for every answer but VAULT_DONE, and so is the form. Every answer but VAULT_DONE is a refusal, and leaves every byte of every area as it was. If
- * there are several reasons to refuse, the first in this order is answered: what reading the sheet answers, then what the call answers, in the
+ * Replies. Every entry but two returns a struct vault_reply: an answer, a place and a value. vault_read_time returns a struct vault_time, which has
+ * these three in front, under the same rules, and a form behind them; vault_check_list a struct vault_verdict, which has the answer and the place in
+ * front, and behind them a fault and where that is. The place is 0 for every answer but VAULT_UNREADABLE; the value is 0 for every answer but
+ * VAULT_DONE, and so are the form, the fault and where it is. Every answer but VAULT_DONE is a refusal, and leaves every byte of every area as it was.
+ * If there are several reasons to refuse, the first in this order is answered: what reading the sheet answers, then what the call answers, in the
  * order in which the entry below names them, then VAULT_ROOM. (vault_open reads no sheet, and vault_read_pla reads a text in its place.)
  *
  * Reading a sheet answers, before anything else,
@@ -50,7 +51,7 @@ extern "C" {
 
 /* The version, as three numbers and as text with dots between. The three lines are its one source: Makefile and vault.pc take it from here. */
 #define VAULT_VERSION_MAJOR 2
-#define VAULT_VERSION_MINOR 0
+#define VAULT_VERSION_MINOR 1
 #define VAULT_VERSION_PATCH 0
 #define VAULT_DOTTED(a, b, c) #a "." #b "." #c
 #define VAULT_DOTTED_VALUES(a, b, c) VAULT_DOTTED(a, b, c)
@@ -76,6 +77,15 @@ enum vault_form {
     VAULT_NO_TIME = 0,    /* refused */
     VAULT_IN_MINUTES = 1, /* M:SS, such as 90:00 */
     VAULT_IN_HOURS = 2    /* H:MM:SS, such as 1:30:00 */
+};
+
+/* The faults of a list that is checked, in the order in which they are sought. */
+enum vault_fault {
+    VAULT_FITS = 0,     /* none; or the check was refused */
+    VAULT_NO_BOX = 1,   /* a number that is no line: not below 3^m */
+    VAULT_OVERLAP = 2,  /* a line that contains a combination of an earlier one */
+    VAULT_LEAVES = 3,   /* a line that contains a combination outside the class */
+    VAULT_UNCOVERED = 4 /* a combination in the class that no line contains */
 };
 
 /* The limits. */
@@ -106,6 +116,14 @@ struct vault_time {
     uint64_t place;  /* 0 but for VAULT_UNREADABLE */
     uint64_t value;  /* the seconds; 0 when refused */
     uint64_t form;   /* an enum vault_form */
+};
+
+/* The reply of vault_check_list. */
+struct vault_verdict {
+    uint64_t answer; /* an enum vault_answer: what reading the sheet answers */
+    uint64_t place;  /* 0 but for VAULT_UNREADABLE */
+    uint64_t fault;  /* an enum vault_fault; 0 when refused */
+    uint64_t at;     /* where the fault is: an index of the list, from 0, or for VAULT_UNCOVERED a combination; 0 if there is none, or when refused */
 };
 
 /*
@@ -176,6 +194,21 @@ struct vault_reply vault_held(const uint8_t *sheet, size_t sheet_size, uint64_t 
  * taken as line numbers; an empty list is before every other. Never refused.
  */
 struct vault_reply vault_before(const uint8_t *first, size_t first_size, const uint8_t *second, size_t second_size);
+
+/*
+ * Checks a list that someone else drew, one byte for each line's number, in any order and of any length. It fits the class if no combination is in
+ * two of its lines, and they together contain the class and nothing else; it need not be the shortest. The empty list fits the empty class alone.
+ * Fault: VAULT_FITS, or the first of these that is found, each being sought through the whole list before the next:
+ *
+ *     VAULT_NO_BOX     a number not below 3^m. At: the first such index
+ *     VAULT_OVERLAP    a line that shares a combination with an earlier one. At: the index of the later line, the first there is
+ *     VAULT_LEAVES     a line that contains a combination outside the class. At: the first such index
+ *     VAULT_UNCOVERED  a combination in the class that no line contains. At: the lowest such combination
+ *
+ * So the list 5, 5, 9 of two marks has VAULT_NO_BOX at 2, and not VAULT_OVERLAP at 1. A faulty list is no refusal: the answer is VAULT_DONE.
+ * Refused: reading's answer. Beware: the fault is then 0, as that of a list that fits: look at the answer first.
+ */
+struct vault_verdict vault_check_list(const uint8_t *sheet, size_t sheet_size, const uint8_t *list, size_t list_size);
 
 /*
  * Reads a running time, which is written in one of two forms, and nothing else:

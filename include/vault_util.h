@@ -36,6 +36,19 @@ static inline const char *vault_answer_text(uint64_t answer)
     }
 }
 
+/* What a fault of a list says, in a few words. A number that is no fault has words too. */
+static inline const char *vault_fault_text(uint64_t fault)
+{
+    switch (fault) {
+    case VAULT_FITS: return "fits";
+    case VAULT_NO_BOX: return "no such line";
+    case VAULT_OVERLAP: return "overlaps an earlier line";
+    case VAULT_LEAVES: return "leaves the class";
+    case VAULT_UNCOVERED: return "is not covered";
+    default: return "no such fault";
+    }
+}
+
 /*
  * The pattern of a line, such as "1-0": a character 0, 1 or - for each mark, the highest first. It is written to out, which has VAULT_PATTERN_SIZE
  * bytes, and out is returned. If marks is not 1 to 5 or the number is no line of so many marks, the text is empty.
@@ -50,6 +63,24 @@ static inline char *vault_line_pattern(uint64_t marks, uint64_t line, char *out)
     for (i = marks; i-- > 0; line /= 3)
         out[i] = "01-"[line % 3];
     return out;
+}
+
+/*
+ * The line of a pattern, for a list that vault_check_list is to check: the text of so many bytes, without a zero byte, has a character 0, 1 or - for
+ * each mark, the highest first. Any other text gives VAULT_MOST_LINES, which is no line of any sheet, as it does if marks is not 1 to 5.
+ */
+static inline uint64_t vault_pattern_line(uint64_t marks, const char *text, size_t size)
+{
+    uint64_t line = 0;
+    size_t i;
+    if (marks < 1 || marks > VAULT_MOST_MARKS || size != marks)
+        return VAULT_MOST_LINES;
+    for (i = 0; i < size; i++) {
+        if (text[i] != '0' && text[i] != '1' && text[i] != '-')
+            return VAULT_MOST_LINES;
+        line = line * 3 + (text[i] == '-' ? 2u : text[i] == '1' ? 1u : 0u);
+    }
+    return line;
 }
 
 /*
@@ -172,10 +203,18 @@ static inline struct vault_reply vault_sheet_withdraw(struct vault_sheet *s, uin
     return vault_sheet_swap(s, vault_withdraw(vault_sheet_bytes(s), s->size, combination, seconds, vault_sheet_room(s), VAULT_FORM_SIZE));
 }
 
-/* What vault.h tells of a sheet. list has VAULT_LIST_SIZE bytes, and text, which gets no zero byte at its end, VAULT_PLA_SIZE. */
+/*
+ * What vault.h tells of a sheet. list has VAULT_LIST_SIZE bytes, but the one that is checked any number; and text, which gets no zero byte at its
+ * end, VAULT_PLA_SIZE.
+ */
 static inline struct vault_reply vault_sheet_list(const struct vault_sheet *s, uint8_t *list)
 {
     return vault_list(vault_sheet_bytes(s), s->size, list, VAULT_LIST_SIZE);
+}
+
+static inline struct vault_verdict vault_sheet_check_list(const struct vault_sheet *s, const uint8_t *list, size_t size)
+{
+    return vault_check_list(vault_sheet_bytes(s), s->size, list, size);
 }
 
 static inline struct vault_reply vault_sheet_write_pla(const struct vault_sheet *s, char *text)

@@ -1,13 +1,14 @@
 /* Every entry at its limits, through vault.h: each answer that it can give, areas of every length around the one that is needed, empty areas with
-   a null pointer and without, numbers above 2^32, guard bytes around what is lent, the known sheets, every beginning of a running time with every byte
-   behind it, PLA texts line by line and byte by byte, and calls from threads with small stacks.
+   a null pointer and without, numbers above 2^32, guard bytes around what is lent, the known sheets, lists with every fault at every place, every
+   beginning of a running time with every byte behind it, PLA texts line by line and byte by byte, and calls from threads with small stacks.
    Prints the first that failed and the number of checks; the exit status is 0 only if none failed. */
-#define _POSIX_C_SOURCE 200809L
+#define _DEFAULT_SOURCE
 #include "vault.h"
 #include <pthread.h>
 #include <stdio.h>
 #include <stdlib.h>
 #include <string.h>
+#include <sys/mman.h>
 #include <unistd.h>
 
 static int checks, faults;
@@ -111,6 +112,28 @@ static void refuses(struct call c, uint64_t answer, uint64_t place)
 
 /* ---- sheets */
 
+/* Whether a line contains a combination, by its digits from the lowest mark up. */
+static int has(uint64_t marks, uint64_t b, uint64_t c)
+{
+    int in = 1;
+    for (uint64_t i = 0; i < marks; i++, b /= 3, c /= 2)
+        in = in && (b % 3 == 2 || b % 3 == c % 2);
+    return in;
+}
+
+/* The form of a sheet that holds nothing. */
+static size_t drawn(uint8_t form[VAULT_FORM_SIZE], uint64_t marks, uint32_t class)
+{
+    size_t n = 3;
+    for (int c = 0; c < 32; c++)
+        if (class >> c & 1)
+            form[n++] = (uint8_t)c;
+    form[0] = (uint8_t)marks;
+    form[1] = (uint8_t)(n - 3);
+    form[2] = form[n] = form[n + 1] = 0;
+    return n + 2;
+}
+
 /* The sample sheet: class 1, 2, 3 of two marks; 240, 150 and 600 seconds under 0, 1 and 3. */
 static const uint8_t sample[] = {2, 3, 0, 1, 2, 3, 3, 0, 0, 0xf0, 0, 0, 0, 1, 0x96, 0, 0, 0, 3, 0x58, 2, 0, 0};
 
@@ -210,6 +233,8 @@ static void reading(void)
         check(is(vault_total(t, n), bad[i].answer, bad[i].place, 0), "vault_total refuses", (long)i);
         check(is(vault_outside(t, n, 0), bad[i].answer, bad[i].place, 0), "vault_outside refuses", (long)i);
         check(is(vault_held(t, n, 0), bad[i].answer, bad[i].place, 0), "vault_held refuses", (long)i);
+        struct vault_verdict v = vault_check_list(t, n, sample, sizeof sample);
+        check(v.answer == bad[i].answer && v.place == bad[i].place && v.fault == 0 && v.at == 0, "vault_check_list refuses", (long)i);
     }
     for (enum entry e = ENTER; e <= READ_PLA; e++)
         refuses((struct call){e, NULL, 0, 0, 1}, VAULT_UNREADABLE, 0);
@@ -293,12 +318,8 @@ static void lines(void)
     size_t n = longest(form);
     for (uint64_t b = 0; b < VAULT_LINES(5); b++) {
         uint64_t held = 0;
-        for (uint64_t c = 0; c < 32; c++) {
-            int in = 1;
-            for (uint64_t i = 0, x = b; i < 5; i++, x /= 3)
-                in = in && (x % 3 == 2 || x % 3 == (c >> i) % 2);
-            held += in ? c + 1 : 0;
-        }
+        for (uint64_t c = 0; c < 32; c++)
+            held += has(5, b, c) ? c + 1 : 0;
         check(is(vault_held(form, n, b), VAULT_DONE, 0, held), "vault_held", (long)b);
         check(is(vault_outside(form, n, b), VAULT_DONE, 0, 0), "vault_outside", (long)b);
     }
@@ -327,6 +348,332 @@ static void comparing(void)
     check(is(vault_before(a, 2, a, 2), 0, 0, 0) && is(vault_before(a, 2, c, 2), 0, 0, 0), "equal", 0);
     check(is(vault_before(NULL, 0, a, 2), 0, 0, 0) && is(vault_before(a, 2, NULL, 0), 0, 0, 1), "an empty list", 0);
     check(is(vault_before(NULL, 0, NULL, 0), 0, 0, 0) && is(vault_before(a, 0, NULL, 0), 0, 0, 0), "two empty lists", 0);
+}
+
+/* ---- lists that others drew */
+
+/* The combinations of each line, a bit for each; none of a number that is no line. */
+static uint32_t sets[VAULT_MOST_MARKS + 1][256];
+
+static void fill_sets(void)
+{
+    for (uint64_t m = 1; m <= VAULT_MOST_MARKS; m++)
+        for (uint64_t b = 0; b < VAULT_LINES(m); b++)
+            for (uint64_t c = 0; c < VAULT_COMBINATIONS(m); c++)
+                sets[m][b] |= (uint32_t)has(m, b, c) << c;
+}
+
+static int judged(struct vault_verdict v, uint64_t answer, uint64_t place, uint64_t fault, uint64_t at)
+{
+    return v.answer == answer && v.place == place && v.fault == fault && v.at == at;
+}
+
+/* What is wrong with a short list, from the rules: fault by fault, and every two lines for themselves. */
+static struct vault_verdict recounted(uint64_t marks, uint32_t class, const uint8_t *list, size_t n)
+{
+    const uint32_t *set = sets[marks];
+    uint32_t covered = 0;
+    for (size_t i = 0; i < n; i++)
+        if (list[i] >= VAULT_LINES(marks))
+            return (struct vault_verdict){VAULT_DONE, 0, VAULT_NO_BOX, i};
+    for (size_t i = 0; i < n; i++)
+        for (size_t j = 0; j < i; j++)
+            if ((set[list[i]] & set[list[j]]) != 0)
+                return (struct vault_verdict){VAULT_DONE, 0, VAULT_OVERLAP, i};
+    for (size_t i = 0; i < n; i++)
+        if ((set[list[i]] & ~class) != 0)
+            return (struct vault_verdict){VAULT_DONE, 0, VAULT_LEAVES, i};
+    for (size_t i = 0; i < n; i++)
+        covered |= set[list[i]];
+    for (uint64_t c = 0; c < VAULT_COMBINATIONS(marks); c++)
+        if ((class & ~covered) >> c & 1)
+            return (struct vault_verdict){VAULT_DONE, 0, VAULT_UNCOVERED, c};
+    return (struct vault_verdict){VAULT_DONE, 0, VAULT_FITS, 0};
+}
+
+/* The verdict on a list of up to ROOM lines, which stands between guard bytes. List and sheet stay as they are. */
+static struct vault_verdict verdict(const uint8_t *form, size_t size, const uint8_t *list, size_t n)
+{
+    uint8_t was[ROOM];
+    struct area *a = lent(n);
+    memcpy(a->p, list, n);
+    memcpy(was, form, size);
+    struct vault_verdict v = vault_check_list(form, size, a->p, n);
+    check(holds(a, list, n) && memcmp(was, form, size) == 0, "list and sheet stay", (long)n);
+    return v;
+}
+
+/* A list of a class is told as it is recounted. */
+static void recount(uint64_t marks, uint32_t class, const uint8_t *list, size_t n, const char *what)
+{
+    uint8_t form[VAULT_FORM_SIZE];
+    size_t size = drawn(form, marks, class);
+    struct vault_verdict v = verdict(form, size, list, n), want = recounted(marks, class, list, n);
+    check(judged(v, VAULT_DONE, 0, want.fault, want.at), what, (long)class);
+}
+
+/* The rows say what is meant; each is recounted too. */
+static void known_lists(void)
+{
+    static const struct {
+        uint64_t marks;
+        uint32_t class;
+        size_t n;
+        uint8_t list[8];
+        uint64_t fault, at;
+    } t[] = {
+        /* the kind first, then the place */
+        {2, 0xe, 3, {5, 5, 9}, VAULT_NO_BOX, 2},
+        {2, 0xe, 4, {9, 5, 5, 255}, VAULT_NO_BOX, 0},
+        {2, 0xe, 3, {0, 1, 1}, VAULT_OVERLAP, 2},
+        {2, 0xe, 3, {8, 0, 1}, VAULT_OVERLAP, 1},
+        {2, 0xe, 2, {5, 0}, VAULT_LEAVES, 1},
+        {2, 0xe, 1, {0}, VAULT_LEAVES, 0},
+        {2, 0xe, 1, {5}, VAULT_UNCOVERED, 1},
+        {2, 0xe, 1, {1}, VAULT_UNCOVERED, 2},
+        /* in any order, and longer than need be */
+        {2, 0xe, 2, {1, 5}, VAULT_FITS, 0},
+        {2, 0xe, 2, {5, 1}, VAULT_FITS, 0},
+        {2, 0xe, 2, {3, 7}, VAULT_FITS, 0},
+        {2, 0xe, 3, {4, 3, 1}, VAULT_FITS, 0},
+        {2, 0xe, 2, {7, 5}, VAULT_OVERLAP, 1},
+        {2, 0xe, 3, {4, 3, 3}, VAULT_OVERLAP, 2},
+        {2, 0xf, 1, {8}, VAULT_FITS, 0},
+        {2, 0xf, 4, {4, 1, 3, 0}, VAULT_FITS, 0},
+        {2, 0xf, 4, {4, 1, 3, 8}, VAULT_OVERLAP, 3},
+        /* the later of the two, though the earlier is the one that leaves the class; two that do not stand side by side */
+        {2, 0xe, 2, {8, 1}, VAULT_OVERLAP, 1},
+        {2, 0xf, 3, {2, 3, 1}, VAULT_OVERLAP, 2},
+        {3, 0xff, 4, {6, 10, 18, 13}, VAULT_OVERLAP, 2},
+        /* none */
+        {1, 0, 0, {0}, VAULT_FITS, 0},
+        {5, 0, 0, {0}, VAULT_FITS, 0},
+        {1, 2, 0, {0}, VAULT_UNCOVERED, 1},
+        {5, 0x80000000, 0, {0}, VAULT_UNCOVERED, 31},
+        {5, 0xffffffff, 0, {0}, VAULT_UNCOVERED, 0},
+        {1, 0, 1, {0}, VAULT_LEAVES, 0},
+        {1, 0, 1, {3}, VAULT_NO_BOX, 0},
+        /* the first function of 000 by its own list, and by one line of it less */
+        {5, 0x5ccc3ce0, 6, {10, 14, 194, 38, 104, 123}, VAULT_FITS, 0},
+        {5, 0x5ccc3ce0, 5, {123, 104, 194, 14, 10}, VAULT_UNCOVERED, 12},
+        {5, 0xffffffff, 1, {242}, VAULT_FITS, 0},
+        {5, 0xffffffff, 1, {243}, VAULT_NO_BOX, 0},
+        {5, 0xfffffffe, 1, {242}, VAULT_LEAVES, 0},
+        {5, 0x7fffffff, 1, {242}, VAULT_LEAVES, 0},
+    };
+    for (size_t i = 0; i < sizeof t / sizeof *t; i++) {
+        uint8_t form[VAULT_FORM_SIZE];
+        size_t size = drawn(form, t[i].marks, t[i].class);
+        check(judged(verdict(form, size, t[i].list, t[i].n), VAULT_DONE, 0, t[i].fault, t[i].at), "a known list", (long)i);
+        recount(t[i].marks, t[i].class, t[i].list, t[i].n, "a known list recounted");
+    }
+    check(judged(vault_check_list(sample, sizeof sample, NULL, 0), VAULT_DONE, 0, VAULT_UNCOVERED, 1), "no list", 0);
+    check(judged(vault_check_list(full, sizeof full, NULL, 0), VAULT_DONE, 0, VAULT_FITS, 0), "no list, and an empty class", 0);
+    check(judged(vault_check_list(sample, sizeof sample, (const uint8_t[]){5, 1}, 2), VAULT_DONE, 0, VAULT_FITS, 0), "what is held does not count", 0);
+    check(judged(vault_check_list(sample, sizeof sample, sample, sizeof sample), VAULT_DONE, 0, VAULT_NO_BOX, 9), "a sheet is its own list", 0);
+}
+
+/* Every class of the marks, with every list of up to so many lines, each one of n values. */
+static void every_list(uint64_t marks, const uint8_t *values, size_t n, size_t most)
+{
+    for (uint32_t class = 0; class < UINT32_C(1) << VAULT_COMBINATIONS(marks); class++)
+        for (size_t k = 0, lists = 1; k <= most; k++, lists *= n)
+            for (size_t number = 0; number < lists; number++) {
+                uint8_t list[8];
+                for (size_t i = 0, x = number; i < k; i++, x /= n)
+                    list[i] = values[x % n];
+                recount(marks, class, list, k, "every list");
+            }
+}
+
+/* Every byte value by itself, in front of a line and behind it: with the class that the line makes, a combination less, one more, none and all. */
+static void every_value(uint64_t marks)
+{
+    uint32_t all = (uint32_t)((UINT64_C(1) << VAULT_COMBINATIONS(marks)) - 1);
+    for (uint32_t b = 0; b < 256; b++) {
+        uint32_t own = sets[marks][b];
+        uint32_t classes[] = {own, own & (own - 1), own & (own >> 1), own | ((own << 1) & all), ~own & all, 0, all};
+        for (size_t i = 0; i < sizeof classes / sizeof *classes; i++) {
+            uint8_t list[] = {0, (uint8_t)b, (uint8_t)(VAULT_LINES(marks) - 2)};
+            recount(marks, classes[i], list + 1, 1, "every value");
+            recount(marks, classes[i], list, 2, "every value behind a line");
+            recount(marks, classes[i], list + 1, 2, "every value before a line");
+            recount(marks, classes[i], list, 3, "every value between lines");
+        }
+    }
+}
+
+/* Every two lines, with the class that they make: they fit, or overlap at 1. Then with a line between them, which may overlap either. */
+static void every_two(uint64_t marks)
+{
+    for (uint32_t a = 0; a < VAULT_LINES(marks); a++)
+        for (uint32_t b = 0; b < VAULT_LINES(marks); b++) {
+            uint8_t form[VAULT_FORM_SIZE], list[] = {(uint8_t)a, (uint8_t)b};
+            uint8_t three[] = {(uint8_t)a, (uint8_t)((a * 5 + b * 7) % VAULT_LINES(marks)), (uint8_t)b};
+            uint32_t class = sets[marks][a] | sets[marks][b];
+            int apart = (sets[marks][a] & sets[marks][b]) == 0;
+            struct vault_verdict v = verdict(form, drawn(form, marks, class), list, 2);
+            check(judged(v, VAULT_DONE, 0, apart ? VAULT_FITS : VAULT_OVERLAP, apart ? 0 : 1), "two lines", (long)(a * 243 + b));
+            recount(marks, class, three, 3, "three lines");
+        }
+}
+
+/* Ten lines of a combination each, and two faults put among them, at every two places: the one whose kind comes first is told, wherever it stands. */
+static void two_faults(void)
+{
+    enum { LINES = 10 };
+    static const uint8_t numbers[] = {0, 1, 3, 4, 9, 10, 12, 13, 27, 28}; /* the lines of 0 to 9 alone */
+    static const uint8_t wrong[][2] = {{243, 255}, {12, 10}, {242, 229}, {81, 121}}; /* no boxes; the same as two of the ten; all; outside */
+    static const uint32_t classes[] = {0x3ff, 0xffff, 0xc000ffff, 0x3fe, 0};
+    for (size_t k = 0; k < sizeof classes / sizeof *classes; k++)
+        for (size_t kinds = 0; kinds < 4 * 4 * 4; kinds++)
+            for (size_t places = 0; places < (LINES + 1) * (LINES + 2); places++) {
+                size_t p = places % (LINES + 1), q = places / (LINES + 1), n = LINES;
+                uint8_t list[LINES + 2];
+                memcpy(list, numbers, LINES);
+                memmove(list + p + 1, list + p, n++ - p);
+                list[p] = wrong[kinds / 16][kinds % 2];
+                memmove(list + q + 1, list + q, n++ - q);
+                list[q] = wrong[kinds / 4 % 4][kinds / 2 % 2];
+                recount(5, classes[k], list, n, "two faults");
+                recount(5, classes[k], list, n - 1, "two faults, and the last line gone");
+                recount(5, classes[k], list + 1, n - 1, "two faults, and the first line gone");
+            }
+}
+
+/* The lines of all single combinations, upwards or downwards. */
+static void singles(uint64_t marks, int down, uint8_t *list)
+{
+    uint32_t size = VAULT_COMBINATIONS(marks);
+    for (uint32_t b = 0; b < VAULT_LINES(marks); b++)
+        for (uint32_t c = 0; c < size; c++)
+            if (sets[marks][b] == UINT32_C(1) << c)
+                list[down ? size - 1 - c : c] = (uint8_t)b;
+}
+
+/* They fit; each two that are gone are told, each one that is there twice, each that is outside the class, and each line behind them all. */
+static void every_gap(uint64_t marks, int down)
+{
+    uint8_t list[VAULT_MOST_COMBINATIONS + 1], other[VAULT_MOST_COMBINATIONS];
+    uint32_t size = VAULT_COMBINATIONS(marks), all = (uint32_t)((UINT64_C(1) << size) - 1);
+    singles(marks, down, list);
+    recount(marks, all, list, size, "all combinations");
+    for (uint32_t i = 0; i < size; i++)
+        for (uint32_t j = i; j < size; j++) {
+            uint32_t n = 0;
+            for (uint32_t k = 0; k < size; k++)
+                if (k != i && k != j)
+                    other[n++] = list[k];
+            recount(marks, all, other, n, "two combinations left out");
+            memcpy(other, list, size);
+            other[j] = list[i];
+            recount(marks, all, other, size, "a combination twice");
+            recount(marks, all & ~(UINT32_C(1) << i | UINT32_C(1) << j), list, size, "two combinations outside");
+        }
+    for (uint32_t b = 0; b < 256; b++) {
+        list[size] = (uint8_t)b;
+        recount(marks, all, list, size + 1, "a line behind them all");
+    }
+}
+
+/* A long list, all of one line but for one number: alone it says where that stands, whatever the length. */
+static void long_lists(void)
+{
+    enum { LONG = 1000000 };
+    static const size_t lengths[] = {33, 243, 244, 255, 256, 257, 512, 65535, 65536, 65537, 131072, LONG};
+    uint8_t form[VAULT_FORM_SIZE], *list = malloc(LONG);
+    if (list == NULL) {
+        printf("no memory\n");
+        exit(2);
+    }
+    for (uint64_t m = 1; m <= 5; m++) {
+        size_t size = drawn(form, m, 1);
+        uint8_t beyond = (uint8_t)VAULT_LINES(m);
+        memset(list, 0, LONG);
+        for (size_t i = 0; i < sizeof lengths / sizeof *lengths; i++) {
+            size_t n = lengths[i], places[] = {0, 1, n / 2, n - 2, n - 1};
+            check(judged(vault_check_list(form, size, list, n), VAULT_DONE, 0, VAULT_OVERLAP, 1), "one line, many times", (long)n);
+            for (size_t k = 0; k < sizeof places / sizeof *places; k++) {
+                list[places[k]] = beyond;
+                check(judged(vault_check_list(form, size, list, n), VAULT_DONE, 0, VAULT_NO_BOX, places[k]), "no box in a long list", (long)places[k]);
+                list[places[k]] = 0;
+            }
+        }
+        list[0] = beyond - 1; /* the line of all */
+        check(judged(vault_check_list(form, size, list, LONG), VAULT_DONE, 0, VAULT_OVERLAP, 1), "all, and many times a part of it", (long)m);
+    }
+    free(list);
+}
+
+/* A length whose low 32 bits are 0, and one with 1 there, of which the first number is no box. Of the pages only the first can be written to. */
+static void longest_list(void)
+{
+    size_t n = ((size_t)1 << 32) + 1, page = (size_t)sysconf(_SC_PAGESIZE);
+    uint8_t *list = mmap(NULL, n, PROT_READ, MAP_PRIVATE | MAP_ANONYMOUS, -1, 0);
+    if (list == MAP_FAILED || mprotect(list, page, PROT_READ | PROT_WRITE) != 0) {
+        check(0, "no pages for a list of 2^32 lines", 0);
+        return;
+    }
+    list[0] = 255;
+    check(judged(vault_check_list(sample, sizeof sample, list, n - 1), VAULT_DONE, 0, VAULT_NO_BOX, 0), "2^32 lines", 0);
+    list[0] = 0;
+    list[1] = 9;
+    check(judged(vault_check_list(sample, sizeof sample, list, n), VAULT_DONE, 0, VAULT_NO_BOX, 1), "2^32 lines and one", 0);
+    munmap(list, n);
+}
+
+/* A sheet that cannot be read is answered as vault_class_size answers it, whatever the list. One that can is not refused. */
+static void unread(const uint8_t *bytes, size_t n, long which)
+{
+    static const uint8_t lists[][3] = {{1, 5, 0}, {255, 255, 255}, {0, 0, 0}, {8, 8, 8}};
+    struct vault_reply r = vault_class_size(bytes, n);
+    for (size_t i = 0; i < sizeof lists / sizeof *lists; i++)
+        for (size_t k = 0; k <= 3; k++) {
+            struct vault_verdict v = verdict(bytes, n, lists[i], k);
+            check(v.answer == r.answer && v.place == r.place && (r.answer == VAULT_DONE || (v.fault == 0 && v.at == 0)), "a spoiled sheet", which);
+        }
+    if (r.answer != VAULT_DONE)
+        check(judged(vault_check_list(bytes, n, NULL, 0), r.answer, r.place, 0, 0), "a spoiled sheet and no list", which);
+}
+
+static void spoiled_sheets(void)
+{
+    uint8_t bytes[sizeof sample + 1];
+    for (size_t at = 0; at < sizeof sample; at++)
+        for (int byte = 0; byte < 256; byte++) {
+            memcpy(bytes, sample, sizeof sample);
+            bytes[at] = (uint8_t)byte;
+            unread(bytes, sizeof sample, (long)at);
+        }
+    memcpy(bytes, sample, sizeof sample);
+    bytes[sizeof sample] = 0;
+    for (size_t n = 0; n <= sizeof bytes; n++)
+        unread(bytes, n, (long)n);
+    check(judged(vault_check_list(NULL, 0, NULL, 0), VAULT_UNREADABLE, 0, 0, 0), "no sheet and no list", 0);
+    check(judged(vault_check_list(NULL, 0, sample, 3), VAULT_UNREADABLE, 0, 0, 0), "no sheet", 0);
+}
+
+static void checking(void)
+{
+    static const uint8_t few[] = {0, 1, 2, 3, 255}, some[] = {0, 1, 2, 3, 4, 5, 6, 7, 8, 9, 255};
+    uint8_t all[256];
+    for (int b = 0; b < 256; b++)
+        all[b] = (uint8_t)b;
+    fill_sets();
+    known_lists();
+    every_list(1, all, 256, 2);
+    every_list(1, few, sizeof few, 5);
+    every_list(2, some, sizeof some, 4);
+    for (uint64_t m = 1; m <= 5; m++) {
+        every_value(m);
+        every_two(m);
+        every_gap(m, 0);
+        every_gap(m, 1);
+    }
+    two_faults();
+    long_lists();
+    longest_list();
+    spoiled_sheets();
 }
 
 /* ---- running times */
@@ -609,19 +956,6 @@ static void times(void)
 }
 
 /* ---- PLA texts */
-
-/* The form of a sheet that holds nothing. */
-static size_t drawn(uint8_t form[VAULT_FORM_SIZE], uint64_t marks, uint32_t class)
-{
-    size_t n = 3;
-    for (int c = 0; c < 32; c++)
-        if (class >> c & 1)
-            form[n++] = (uint8_t)c;
-    form[0] = (uint8_t)marks;
-    form[1] = (uint8_t)(n - 3);
-    form[2] = form[n] = form[n + 1] = 0;
-    return n + 2;
-}
 
 /* Text of so many bytes draws this class. */
 static void draws(const char *text, size_t size, uint64_t marks, uint32_t class)
@@ -1030,15 +1364,8 @@ static void every_cube(void)
             memcpy(text + size, " 1", 2);
             n += snprintf(all + n, sizeof all - (size_t)n, "%.*s\n", (int)m + 2, text + head);
             struct vault_reply r = vault_read_pla(text, size + 2, form, sizeof form);
-            uint32_t class = 0;
-            for (uint32_t c = 0; c < VAULT_COMBINATIONS(m); c++) {
-                uint64_t in = 1;
-                for (uint64_t i = 0, x = b; i < m; i++, x /= 3)
-                    in = in && (x % 3 == 2 || x % 3 == (c >> i) % 2);
-                class |= (uint32_t)in << c;
-            }
             uint8_t want[VAULT_FORM_SIZE];
-            size_t k = drawn(want, m, class);
+            size_t k = drawn(want, m, sets[m][b]);
             check(is(r, VAULT_DONE, 0, k) && memcmp(form, want, k) == 0, "a cube", (long)b);
         }
         draws(all, (size_t)n, m, (uint32_t)((UINT64_C(1) << VAULT_COMBINATIONS(m)) - 1));
@@ -1128,6 +1455,8 @@ static void *night(void *arg)
         r = vault_list(form[now], n, list, sizeof list);
         wrong += r.answer != VAULT_DONE || (size > 0 && r.value == 0) || vault_class_size(form[now], n).value != size ||
                  vault_total(form[now], n).value != total;
+        struct vault_verdict v = vault_check_list(form[now], n, list, (size_t)r.value);
+        wrong += v.answer != VAULT_DONE || v.fault != VAULT_FITS;
         r = vault_write_pla(form[now], n, text, sizeof text);
         wrong += r.answer != VAULT_DONE || vault_read_pla(text, (size_t)r.value, form[!now], VAULT_FORM_SIZE).value != 5 + size;
         struct vault_time time = seed % 2 ? vault_read_time("1:30:00", 7) : vault_read_time("90:00", 5);
@@ -1162,6 +1491,7 @@ int main(void)
     listing();
     lines();
     comparing();
+    checking();
     times();
     pla();
     threads();

@@ -1,5 +1,5 @@
-//! Compares the library with tests/model.rs: of every class of up to four marks the list, the PLA text, and that text read back; then random calls of
-//! every entry. They go to a program that makes them (tests/driver.c), and its replies and all the bytes of the areas that were lent, with those
+//! Compares the library with tests/model.rs: of every class of up to four marks the list, the PLA text, that text read back, the list checked, and a
+//! list that someone else drew; then random calls of every entry. They go to a program that makes them (tests/driver.c), and its replies and all the bytes of the areas that were lent, with those
 //! around them, must be the model's.
 //!
 //!     differential CALLS SEED PROGRAM WORD..
@@ -10,13 +10,14 @@ mod model;
 mod random;
 
 use model::{cube, done, is_before, pla, read_pla, refused, Lists, Reply, Sheet, Times, HOURS, MINUTES, MOST_AMOUNT, MOST_HELD};
+use model::{FITS, LEAVES, NO_BOX, OVERLAP, UNCOVERED};
 use random::Random;
 use std::io::{Read, Write};
 use std::process::{Child, Command, Stdio};
 
 #[rustfmt::skip]
-const NAMES: [&str; 15] = ["open", "enter", "leave", "receive", "withdraw", "copy", "list", "class_size", "total", "outside", "held", "before", "read_time",
-    "read_pla", "write_pla"];
+const NAMES: [&str; 16] = ["open", "enter", "leave", "receive", "withdraw", "copy", "list", "class_size", "total", "outside", "held", "before", "read_time",
+    "read_pla", "write_pla", "check_list"];
 
 /// Lines that no PLA text of ours has, or that have a meaning of their own.
 #[rustfmt::skip]
@@ -50,7 +51,7 @@ impl Area {
     fn send(&self, to: &mut Vec<u8>) {
         to.push(u8::from(self.null));
         for part in [&self.before, &self.bytes, &self.behind] {
-            to.extend((part.len() as u16).to_le_bytes());
+            to.extend((part.len() as u32).to_le_bytes());
         }
         to.extend(self.all());
     }
@@ -542,8 +543,128 @@ impl Tests {
         [write, read]
     }
 
+    /// Two lines in place of one: with one of its free marks off, and on. If it has none, it stays.
+    fn split(&mut self, marks: u32, list: &mut Vec<u8>, i: usize) {
+        let free: Vec<u8> = (0..marks).map(|k| 3u8.pow(k)).filter(|d| list[i] / d % 3 == 2).collect();
+        if !free.is_empty() {
+            let d = self.r.of(&free);
+            list[i] -= d;
+            let at = self.r.below(list.len() as u64 + 1) as usize;
+            list.insert(at, list[i] - d);
+        }
+    }
+
+    /// A line with one more mark free, and, if so wished, without the line that has then become a part of it: the two in one.
+    fn widen(&mut self, marks: u32, list: &mut Vec<u8>, i: usize, merge: bool) {
+        let fixed: Vec<u8> = (0..marks).map(|k| 3u8.pow(k)).filter(|d| list[i] / d % 3 != 2).collect();
+        if !fixed.is_empty() {
+            let other = |d: u8| if list[i] / d % 3 == 0 { list[i].wrapping_add(d) } else { list[i] - d };
+            let paired: Vec<u8> = fixed.iter().copied().filter(|&d| list.contains(&other(d))).collect();
+            let d = self.r.of(if merge && !paired.is_empty() { &paired } else { &fixed });
+            let part = other(d);
+            list[i] = list[i].max(part).wrapping_add(d);
+            if merge {
+                list.retain(|&b| b != part);
+            }
+        }
+    }
+
+    /// One thing done to a list: another order, a line gone, there twice, in two, wider, another one, or a number that may be no line.
+    fn redraw(&mut self, marks: u32, list: &mut Vec<u8>) {
+        let lines = 3u64.pow(marks);
+        let n = list.len() as u64;
+        let (at, to) = (self.r.below(n + 1) as usize, self.r.below(n + 1) as usize);
+        let any = self.r.below(lines) as u8;
+        let beyond = (lines + self.r.below(256 - lines)) as u8;
+        let near = self.r.of(&[lines as u8, lines as u8 - 1, 255, 243, 242]);
+        match self.r.below(12) {
+            0 => list.insert(at, any),
+            1 if self.r.one_in(3) => list.insert(at, beyond),
+            2 if self.r.one_in(3) => list.insert(at, near),
+            _ if at == list.len() => {}
+            3 => {
+                list.remove(at);
+            }
+            4 => list.insert(to, list[at]),
+            5 | 6 => self.split(marks, list, at),
+            7 | 8 => self.widen(marks, list, at, true),
+            9 => self.widen(marks, list, at, false),
+            10 => list[at] = any,
+            11 if self.r.one_in(3) => list[at] = beyond,
+            _ => list.swap(at, to % n as usize),
+        }
+    }
+
+    fn shuffle(&mut self, list: &mut [u8]) {
+        for i in (1..list.len()).rev() {
+            list.swap(i, self.r.below(i as u64 + 1) as usize);
+        }
+    }
+
+    /// More lines than a sheet has combinations: many times the same, or any, and perhaps one number that is no line, anywhere.
+    fn long_list(&mut self, lines: u64) -> Vec<u8> {
+        let n = self.r.of(&[33, 100, 243, 244, 255, 256, 257, 258, 1000, 5000, 65_535, 65_536, 65_537, 70_000]);
+        let n = if n > 1000 && !self.r.one_in(8) { 300 } else { n };
+        let one = self.r.below(lines) as u8;
+        let mut list = if self.r.one_in(2) { vec![one; n] } else { (0..n).map(|_| self.r.below(lines) as u8).collect() };
+        if !self.r.one_in(3) {
+            let any = self.r.below(n as u64) as usize;
+            let at = self.r.of(&[0, n - 1, n - 2, any]);
+            list[at] = (lines + self.r.below(256 - lines)) as u8;
+        }
+        list
+    }
+
+    /// A list for a sheet, as another archive might draw it: the sheet's own, or that of another class, its lines cut in pieces, in any order, and some things
+    /// done to it; or a long one, or any bytes, or none.
+    fn drawn_list(&mut self, sheet: &Sheet) -> Vec<u8> {
+        let (kind, n) = (self.r.below(32), self.r.below(40));
+        match kind {
+            0 => return self.r.bytes(n),
+            1 => return (0..n).map(|_| self.r.below(3u64.pow(sheet.marks)) as u8).collect(),
+            2 | 3 => return self.long_list(3u64.pow(sheet.marks)),
+            4 => return Vec::new(),
+            _ => {}
+        }
+        let other = self.r.below(self.pool.len() as u64) as usize;
+        let of = if kind == 5 { &self.pool[other] } else { sheet };
+        let (marks, mut list) = (of.marks, self.lists.first_shortest(of));
+        for _ in 0..self.r.of(&[0, 0, 1, 3, 8, 40]) {
+            if !list.is_empty() {
+                let i = self.r.below(list.len() as u64) as usize;
+                self.split(marks, &mut list, i);
+            }
+        }
+        if !self.r.one_in(4) {
+            self.shuffle(&mut list);
+        }
+        for _ in 0..self.r.of(&[0, 0, 1, 1, 1, 2, 3]) {
+            self.redraw(sheet.marks, &mut list);
+        }
+        list
+    }
+
+    fn check_list(&mut self) -> Call {
+        let form = self.form();
+        let read = Sheet::read(&form);
+        let like = read.clone().unwrap_or(self.pool[0].clone());
+        let list = self.drawn_list(&like);
+        let reply = read.map_or_else(|refusal| refusal, |s| s.check(&list));
+        self.telling(15, [0, 0], vec![form, list], reply)
+    }
+
+    /// The list of a class checked, and one that someone else drew.
+    fn checks_of(&mut self, sheet: &Sheet) -> [Call; 2] {
+        let own = self.lists.first_shortest(sheet);
+        let other = self.drawn_list(sheet);
+        let reply = sheet.check(&other);
+        let fits = self.telling(15, [0, 0], vec![sheet.form(), own], done(0));
+        [fits, self.telling(15, [0, 0], vec![sheet.form(), other], reply)]
+    }
+
     fn call(&mut self) -> Call {
-        match self.r.below(40) {
+        match self.r.below(46) {
+            40..=45 => self.check_list(),
             26..=32 => self.read_pla(),
             33..=35 => self.write_pla(),
             36..=39 => self.read_time(),
@@ -601,7 +722,7 @@ fn taken(call: &Call, bytes: &mut &[u8]) -> Option<(Reply, Vec<Vec<u8>>)> {
         Some(front.to_vec())
     };
     let mut number = || Some(u64::from_le_bytes(take(8)?.try_into().ok()?));
-    let reply = Reply { answer: number()?, place: number()?, value: number()?, form: number()? };
+    let reply = Reply { answer: number()?, place: number()?, value: number()?, form: number()?, fault: number()?, at: number()? };
     let later: Option<Vec<_>> = call.later.iter().map(|all| take(all.len())).collect();
     Some((reply, later?))
 }
@@ -635,16 +756,17 @@ fn main() {
         tests.pool.push(sheet);
     }
     let mut counts = [[0u64; 11]; NAMES.len()];
-    let mut forms = [0u64; 3];
+    let (mut forms, mut faults) = ([0u64; 3], [0u64; 5]);
     let mut made = 0;
     let (mut sheets, classes) = (every_class(), every_class().count() as u64);
-    while made < 3 * classes + calls {
+    while made < 5 * classes + calls {
         let mut batch: Vec<Call> = Vec::new();
-        while batch.len() < 512 && batch.iter().map(Call::size).sum::<usize>() < MOST_BYTES && made + (batch.len() as u64) < 3 * classes + calls {
+        while batch.len() < 512 && batch.iter().map(Call::size).sum::<usize>() < MOST_BYTES && made + (batch.len() as u64) < 5 * classes + calls {
             match sheets.next() {
                 Some(sheet) => {
                     batch.push(tests.list_of(&sheet));
                     batch.extend(tests.pla_of(&sheet));
+                    batch.extend(tests.checks_of(&sheet));
                 }
                 None => batch.push(tests.call()),
             }
@@ -661,6 +783,9 @@ fn main() {
             }
             counts[call.entry][call.reply.answer as usize] += 1;
             forms[call.reply.form as usize] += 1;
+            if NAMES[call.entry] == "check_list" && call.reply.answer == 0 {
+                faults[call.reply.fault as usize] += 1;
+            }
         }
         if !rest.is_empty() {
             stop("the program says more than was asked");
@@ -675,5 +800,7 @@ fn main() {
         println!("vault_{name:<11}{:>7} calls, by answer {}", answers.iter().sum::<u64>(), given.join(", "));
     }
     println!("running times that were read: {} in minutes, {} in hours", forms[MINUTES as usize], forms[HOURS as usize]);
-    println!("differential: lists and PLA texts of all {classes} classes of up to four marks, and {calls} random calls compared, no difference (seed {seed})");
+    let [fit, no_box, overlap, leaves, uncovered] = [FITS, NO_BOX, OVERLAP, LEAVES, UNCOVERED].map(|f| faults[f as usize]);
+    println!("lists that were checked: {fit} fit, {no_box} have no box, {overlap} overlap, {leaves} leave the class, {uncovered} do not cover it");
+    println!("differential: all {classes} classes of up to four marks, and {calls} random calls compared, no difference (seed {seed})");
 }

@@ -4,8 +4,8 @@
 
    A batch is a length in 4 bytes and that many bytes of requests; the answer to it is a length in 4 bytes and that many bytes of replies.
    A request: which entry (1 byte), two numbers (8 bytes each), then each area: 1 if it is null (1 byte), how many bytes stand before it, in it and
-   behind it (2 bytes each), and all these bytes. A reply: answer, place, value, form (8 bytes each; 0 for an entry without form), then all the bytes of each
-   area as they are now. Numbers have their low byte first. */
+   behind it (4 bytes each), and all these bytes. A reply: answer, place, value, form, fault, at (8 bytes each; 0 for what an entry does not tell), then all
+   the bytes of each area as they are now. Numbers have their low byte first. */
 #define _DEFAULT_SOURCE
 #include "vault.h"
 #include <stdio.h>
@@ -63,7 +63,7 @@ static void protect(const struct area *a, int how)
 static void lend(struct area *a, int written)
 {
     int null = (int)number(1);
-    size_t before = (size_t)number(2), n = (size_t)number(2), behind = (size_t)number(2);
+    size_t before = (size_t)number(4), n = (size_t)number(4), behind = (size_t)number(4);
     a->all = before + n + behind;
     a->n = n;
     if (a->all > ROOM)
@@ -88,12 +88,13 @@ static uint8_t *call(uint8_t *to, struct area *s, struct area *t)
 {
     struct vault_reply r = {99, 99, 99};
     struct vault_time time = {99, 99, 99, 0};
+    struct vault_verdict verdict = {99, 99, 0, 0};
     int entry = (int)number(1);
     uint64_t x = number(8), y = number(8);
     int areas = entry == 0 || (entry > 6 && entry < 11) || entry == 12 ? 1 : 2;
     lend(s, entry == 0);
     if (areas == 2)
-        lend(t, entry != 11);
+        lend(t, entry != 11 && entry != 15);
     switch (entry) {
     case 0: r = vault_open(x, s->p, s->n); break;
     case 1: r = vault_enter(s->p, s->n, x, t->p, t->n); break;
@@ -113,9 +114,14 @@ static uint8_t *call(uint8_t *to, struct area *s, struct area *t)
         break;
     case 13: r = vault_read_pla(s->p, s->n, t->p, t->n); break;
     case 14: r = vault_write_pla(s->p, s->n, t->p, t->n); break;
+    case 15:
+        verdict = vault_check_list(s->p, s->n, t->p, t->n);
+        r = (struct vault_reply){verdict.answer, verdict.place, 0};
+        break;
     default: fail("no such entry");
     }
-    to = put(put(put(put(to, r.answer, 8), r.place, 8), r.value, 8), time.form, 8);
+    to = put(put(put(to, r.answer, 8), r.place, 8), r.value, 8);
+    to = put(put(put(to, time.form, 8), verdict.fault, 8), verdict.at, 8);
     for (int i = 0; i < areas; i++) {
         const struct area *a = i == 0 ? s : t;
         memcpy(to, a->whole, a->all);
@@ -141,7 +147,7 @@ int main(void)
         end = in + n;
         uint8_t *to = out;
         while (at < end) {
-            if ((size_t)(out + sizeof out - to) < 2 * ROOM + 32)
+            if ((size_t)(out + sizeof out - to) < 2 * ROOM + 48)
                 fail("a batch is too long");
             to = call(to, &s, &t);
         }

@@ -20,6 +20,9 @@ pub struct Reply {
     pub value: u64,
     /// That of a running time which was read; else 0.
     pub form: u64,
+    /// Those of a list which was checked; else 0.
+    pub fault: u64,
+    pub at: u64,
 }
 
 pub fn done(value: u64) -> Reply {
@@ -186,6 +189,33 @@ impl Sheet {
     pub fn held_in(&self, line: u64) -> u64 {
         self.over_line(line, |c| self.held[c])
     }
+
+    /// A list that someone else drew: it must contain the class, and may contain nothing else.
+    pub fn check(&self, list: &[u8]) -> Reply {
+        let (fault, at) = fault(self.marks, list, &self.class, &self.class);
+        Reply { fault, at, ..done(0) }
+    }
+}
+
+/// The faults of a list.
+pub const FITS: u64 = 0;
+pub const NO_BOX: u64 = 1;
+pub const OVERLAP: u64 = 2;
+pub const LEAVES: u64 = 3;
+pub const UNCOVERED: u64 = 4;
+
+/// The first fault of a list whose lines must contain all of `need` and nothing outside `room`, none of it twice; and where it is. Each fault is
+/// sought in the whole list before the next.
+fn fault(marks: u32, list: &[u8], need: &[bool], room: &[bool]) -> (u64, u64) {
+    let all = 0..2u64.pow(marks);
+    let has = |b: u8, c: u64| contains(marks, u64::from(b), c);
+    let shares = |a: u8, b: u8| all.clone().any(|c| has(a, c) && has(b, c));
+    let no_box = || list.iter().position(|&b| u64::from(b) >= 3u64.pow(marks));
+    let overlap = || (0..list.len()).find(|&i| list[..i].iter().any(|&b| shares(b, list[i])));
+    let leaves = || list.iter().position(|&b| all.clone().any(|c| has(b, c) && !room[c as usize]));
+    let uncovered = || all.clone().position(|c| need[c as usize] && !list.iter().any(|&b| has(b, c)));
+    let sought: [(u64, &dyn Fn() -> Option<usize>); 4] = [(NO_BOX, &no_box), (OVERLAP, &overlap), (LEAVES, &leaves), (UNCOVERED, &uncovered)];
+    sought.iter().find_map(|(fault, place)| Some((*fault, place()? as u64))).unwrap_or((FITS, 0))
 }
 
 /// The shortest lists, from the least number of lines of every class of four marks, worked out once. A list of a class of five marks has lines with

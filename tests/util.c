@@ -1,6 +1,6 @@
-/* Each function of vault_util.h against the library: patterns and single lines against the numbers and lists of sheets, times against the reading of
-   times, and a sheet that swaps its areas against the entries with areas of their own. Prints what failed and the number of checks; the exit
-   status is 0 only if none failed. */
+/* Each function of vault_util.h against the library: patterns and single lines against the numbers and lists of sheets, patterns read against those
+   written, times against the reading of times, and a sheet that swaps its areas against the entries with areas of their own. Prints what failed and the
+   number of checks; the exit status is 0 only if none failed. */
 #include "vault_util.h"
 #include <inttypes.h>
 #include <stdio.h>
@@ -22,7 +22,12 @@ static int same(struct vault_reply a, struct vault_reply b)
     return a.answer == b.answer && a.place == b.place && a.value == b.value;
 }
 
-/* ---- answers */
+static int alike(struct vault_verdict a, struct vault_verdict b)
+{
+    return a.answer == b.answer && a.place == b.place && a.fault == b.fault && a.at == b.at;
+}
+
+/* ---- answers and faults */
 
 static void answers(void)
 {
@@ -33,6 +38,17 @@ static void answers(void)
             check(strcmp(vault_answer_text(a), vault_answer_text(b)) != 0, "two answers with the same words", a);
     }
     check(strcmp(vault_answer_text(UINT64_MAX), none) == 0 && strcmp(vault_answer_text(UINT64_C(0x100000000)), none) == 0, "no answer", 0);
+}
+
+static void fault_words(void)
+{
+    const char *none = vault_fault_text(5);
+    for (uint64_t a = 0; a <= 4; a++) {
+        check(strcmp(vault_fault_text(a), none) != 0, "a fault without words", a);
+        for (uint64_t b = 0; b < a; b++)
+            check(strcmp(vault_fault_text(a), vault_fault_text(b)) != 0, "two faults with the same words", a);
+    }
+    check(strcmp(vault_fault_text(UINT64_MAX), none) == 0 && strcmp(vault_fault_text(UINT64_C(0x100000000)), none) == 0, "no fault", 0);
 }
 
 /* ---- lines */
@@ -65,6 +81,32 @@ static void pattern(uint64_t marks, uint64_t line)
     struct vault_reply r = vault_sheet_list(&s, list);
     check(r.value == 1 && list[0] == line, "the list of a pattern", line);
     check(strcmp(vault_line_pattern(marks, list[0], again), text) == 0, "the pattern of a list", line);
+    check(vault_pattern_line(marks, text, strlen(text)) == line, "the line of a pattern", line);
+}
+
+/* A pattern with another byte at one place, with one more, and with one less: the line that has it as its pattern, if there is one, and else no line. */
+static void patterns_spoiled(void)
+{
+    char text[] = "1-01-0", own[VAULT_PATTERN_SIZE];
+    for (uint64_t marks = 1; marks <= VAULT_MOST_MARKS; marks++) {
+        for (size_t i = 0; i < marks; i++) {
+            char was = text[i];
+            for (int byte = 0; byte < 256; byte++) {
+                text[i] = (char)byte;
+                uint64_t line = vault_pattern_line(marks, text, (size_t)marks);
+                int sign = byte == '0' || byte == '1' || byte == '-';
+                int good = sign ? memcmp(vault_line_pattern(marks, line, own), text, (size_t)marks) == 0 : line == VAULT_MOST_LINES;
+                check(good, "a byte of a pattern", (uint64_t)byte);
+            }
+            text[i] = was;
+        }
+        for (size_t size = 0; size < sizeof text; size++)
+            check((vault_pattern_line(marks, text, size) < VAULT_LINES(marks)) == (size == marks), "a pattern of another length", size);
+        check(vault_pattern_line(marks, NULL, 0) == VAULT_MOST_LINES, "no pattern", marks);
+        check(vault_pattern_line(marks, text, (size_t)marks + ((size_t)1 << 32)) == VAULT_MOST_LINES, "a length above 2^32", marks);
+    }
+    check(vault_pattern_line(0, text, 0) == VAULT_MOST_LINES && vault_pattern_line(6, text, 6) == VAULT_MOST_LINES, "no marks, and six", 0);
+    check(vault_pattern_line(UINT64_C(0x100000002), text, 2) == VAULT_MOST_LINES, "marks above 2^32", 0);
 }
 
 static void patterns(void)
@@ -157,6 +199,8 @@ static void tells(const struct vault_sheet *s, const uint8_t *bytes, size_t size
     uint8_t list[VAULT_LIST_SIZE] = {0}, want[VAULT_LIST_SIZE] = {0};
     int lists = same(vault_sheet_list(s, list), vault_list(bytes, size, want, sizeof want));
     check(lists && memcmp(list, want, sizeof want) == 0, "the list", line);
+    for (size_t n = 0; n <= sizeof list; n += 1 + n / 3)
+        check(alike(vault_sheet_check_list(s, list, n), vault_check_list(bytes, size, want, n)), "a list that is checked", line);
     char text[VAULT_PLA_SIZE] = {0}, as_text[VAULT_PLA_SIZE] = {0};
     int texts = same(vault_sheet_write_pla(s, text), vault_write_pla(bytes, size, as_text, sizeof as_text));
     check(texts && memcmp(text, as_text, sizeof text) == 0, "the PLA text", line);
@@ -232,7 +276,9 @@ static void no_sheets(void)
 int main(void)
 {
     answers();
+    fault_words();
     patterns();
+    patterns_spoiled();
     singles();
     times();
     for (uint64_t marks = 1; marks <= VAULT_MOST_MARKS; marks++)
