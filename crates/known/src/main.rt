@@ -1,6 +1,6 @@
-// Runs the known sheets, times and amounts of 01 that are not shown of the definitions, and the times of 02, and prints what the library answers; the
-// file `stdout` has what is to come. 000's first function is there with its own six lines beside ours.
-use boxes;
+// Runs the known sheets, times and amounts of 01 that are not shown of the definitions, and the lists and times of 02, and prints what the library
+// answers; the file `stdout` has what is to come. 000's first function is there with its own six lines beside ours.
+use checking;
 use libc::STDOUT_FILENO;
 use listing;
 use lists;
@@ -9,7 +9,6 @@ use sheet::Sheet;
 use times;
 use writing;
 ghost use mathlib.Core.Path.{_≡_};
-ghost use Prim.Native.Nat.{_≤_};
 ghost use lib.ListN.{length};
 
 const ONE_TO_SIX: [u8; 6] = [1, 2, 3, 4, 5, 6];
@@ -87,69 +86,29 @@ fn with_class(m: usize, class: &[u8]) -> Sheet {
     sheet
 }
 
-fn is_among(class: &[u8], c: usize) -> bool {
-    let mut i: usize = 0;
-    while i < class.len() {
-        if ground::byte(class[i]) == c {
-            return true;
-        }
-        i += 1;
-    }
-    false
-}
-
-// How many lines contain the combination c.
-fn lines_with(m: usize, list: &[u8], c: usize) -> usize
-    requires { ⌜ m ≤ 8 ⌝ }
-{
-    let mut n: usize = 0;
-    let mut i: usize = 0;
-    while i < list.len() {
-        if boxes::contains(m, ground::byte(list[i]), c) {
-            n += 1;
-        }
-        i += 1;
-    }
-    n
-}
-
-// Whether each combination of the class is in exactly one line, and no other is in any.
-fn is_parted(m: usize, class: &[u8], list: &[u8]) -> bool
-    requires { ⌜ m ≤ 8 ⌝ }
-{
-    let n = boxes::power2(m);
-    for c in 0..n {
-        let k = lines_with(m, list, c);
-        if is_among(class, c) {
-            if k != 1 {
-                return false;
-            }
-        } else {
-            if k != 0 {
-                return false;
-            }
-        }
-    }
-    true
-}
-
-fn print_list(m: usize, class: &[u8], list: &[u8])
-    requires { ⌜ m ≤ 8 ⌝ }
-{
+// A list, and what the check finds of it.
+fn print_list(sheet: Sheet, list: &[u8]) {
     print_numbers(list);
-    if is_parted(m, class, list) {
-        word(b" fits\n");
+    let found = checking::verdict_of(checking::check(sheet, list));
+    if found.answer != 0 {
+        word(b" refused");
+        number(found.answer);
+    } else if found.fault == 0 {
+        word(b" fits");
     } else {
-        word(b" does not fit\n");
+        word(b" fault");
+        number(found.fault);
+        word(b" at");
+        number(found.at);
     }
+    word(b"\n");
 }
 
 // The list of a known sheet.
-fn known_sheet(m: usize, class: &[u8])
-    requires { ⌜ m ≤ 8 ⌝ }
-{
+fn known_sheet(m: usize, class: &[u8]) {
+    let sheet = with_class(m, class);
     let mut area = listing::area();
-    let listed = listing::list(with_class(m, class), &mut area);
+    let listed = listing::list(sheet, &mut area);
     let n = listed.value;
     word(b"list");
     if listed.number != 0 {
@@ -159,7 +118,7 @@ fn known_sheet(m: usize, class: &[u8])
     }
     if n <= 32 {
         let k = n as usize;
-        print_list(m, class, &area[..k]);
+        print_list(sheet, &area[..k]);
     }
 }
 
@@ -167,10 +126,11 @@ fn known_sheet(m: usize, class: &[u8])
 fn document() {
     let class = FUNCTION;
     let theirs = ITS_LINES;
+    let sheet = with_class(5, &class);
     word(b"000");
-    print_list(5, &class, &theirs);
+    print_list(sheet, &theirs);
     let mut area = listing::area();
-    let listed = listing::list(with_class(5, &class), &mut area);
+    let listed = listing::list(sheet, &mut area);
     let n = listed.value;
     if n <= 32 {
         let k = n as usize;
@@ -178,6 +138,23 @@ fn document() {
         print_numbers(lists::before(&theirs, &area[..k]));
         word(b"\n");
     }
+}
+
+// A list that others drew for the class of 1 to 3 over two marks.
+fn drawn(list: &[u8]) {
+    let class = ONE_TO_THREE;
+    word(b"drawn");
+    print_list(with_class(2, &class), list);
+}
+
+// One of each fault; and more than one, of which the first in the order of kinds is told.
+fn lists_that_others_drew() {
+    drawn(b"\x05\x01");
+    drawn(b"\x05\x05\x09");
+    drawn(b"\x05\x07\x01");
+    drawn(b"\x05\x02");
+    drawn(b"\x05");
+    drawn(b"");
 }
 
 // An area for a stored form.
@@ -298,6 +275,7 @@ fn main() {
     known_sheet(5, &all);
     known_sheet(5, &function);
     document();
+    lists_that_others_drew();
     stored();
     times_of_both_forms();
     amount(0);
