@@ -92,16 +92,17 @@ static int judge(const struct vault_sheet *s, const char *name)
     const uint8_t *list = (const uint8_t *)text;
     struct vault_verdict v = vault_sheet_check_list(s, list, in_numbers(marks, text, size));
     const char *fault = vault_fault_text(v.fault);
-    if (v.fault == VAULT_FITS)
+    int told = v.answer != VAULT_DONE ? failed(name, vault_answer_text(v.answer)) : v.fault == VAULT_FITS ? FITS : FAULTY;
+    if (told == FITS)
         printf("%s: %s\n", name, fault);
     else if (v.fault == VAULT_UNCOVERED)
         printf("%s: %s %s\n", name, vault_line_pattern(marks, vault_line_of(v.at), pattern), fault);
     else if (v.fault == VAULT_NO_BOX)
         printf("%s: line %" PRIu64 ": no pattern of %" PRIu64 " marks\n", name, v.at + 1, marks);
-    else
+    else if (told == FAULTY)
         printf("%s: line %" PRIu64 ": %s %s\n", name, v.at + 1, vault_line_pattern(marks, list[v.at], pattern), fault);
     free(text);
-    return v.fault == VAULT_FITS ? FITS : FAULTY;
+    return told;
 }
 
 int main(int n, char **words)

@@ -1,13 +1,14 @@
 // Whether a list that others drew fits the class of a sheet, and else its first fault. Any bytes are taken as box numbers, in any order and number.
 ghost use mathlib.Core.Path.{_≡_};
 ghost use Prim.Native.Nat.{_^_, _<_, _≤_};
+ghost use lib.ListN.{length, getD};
 ghost use Rattle.sheet.specs.Limits.{mostMarks};
 ghost use Rattle.sheet.specs.Sound.{ClassReady};
 ghost use Rattle.sets.specs.Sets.{setMarks, has, Sets};
 ghost use Rattle.lists.specs.Lists.{Boxes};
-ghost use Rattle.checking.specs.Faults.{NoBox, Overlaps, Leaves, faultNumber, Judged};
+ghost use Rattle.checking.specs.Faults.{NoBox, Leaves, faultNumber, Judged};
 ghost use Rattle.checking.specs.Answers.{Checked, verdictOf};
-ghost use Rattle.checking.specs.Parts.{FirstIn, United};
+ghost use Rattle.checking.specs.Parts.{FirstIn, SetOf, United};
 use boxes;
 use sheet::Sheet;
 
@@ -52,6 +53,14 @@ fn no_box(m: usize, list: &[u8]) -> usize
     i
 }
 
+// The combinations of the box at an index.
+fn set_at(m: usize, sets: &[u32; 243], list: &[u8], i: usize) -> u32
+    requires { ⌜ (m ≤ setMarks) × Sets m (now sets) × Boxes m (now list) × (i < length (now list)) ⌝ }
+    ensures { λ r. ⌜ SetOf m (getD (now (list .entry)) i 0) r ⌝ }
+{
+    sets[list[i] as usize]
+}
+
 // The index of the first box that overlaps an earlier one, and the length where none does; and what the boxes before it cover.
 struct Union {
     end: usize,
@@ -66,7 +75,7 @@ fn united(m: usize, sets: &[u32; 243], list: &[u8]) -> Union
     let mut covered: u32 = 0;
     let mut i: usize = 0;
     while i < list.len() {
-        let s = sets[list[i] as usize];
+        let s = set_at(m, sets, list, i);
         if s & covered != 0 {
             return Union { end: i, covered };
         }
@@ -83,7 +92,7 @@ fn leaving(m: usize, sets: &[u32; 243], room: u32, list: &[u8]) -> usize
 {
     let mut i: usize = 0;
     while i < list.len() {
-        let s = sets[list[i] as usize];
+        let s = set_at(m, sets, list, i);
         if s & !room != 0 {
             return i;
         }

@@ -1,10 +1,7 @@
 -- No box before i leaves the room.
-use Prim.Native.Nat.{_≤_, _<_, _-_, _^_}
+use Prim.Native.Nat.{_≤_, _-_}
 use native.Mathlib.Omega.{arith}
-use native.Mathlib.Nat.{pow-le-pow-right}
-use lib.ListN.{length, getD}
-use borrow.Author.Needs.{needs}
-use Rattle.lists.proofs.Places.{boxes-at}
+use lib.ListN.{length}
 use Rattle.sets.specs.Sets.{has}
 use Rattle.checking.specs.Faults.{Leaves}
 use Rattle.checking.proofs.Firsts.{Passed, passed-none, passed-more, first-here, first-nowhere}
@@ -18,39 +15,27 @@ Inv-loop m sets room list i₀ i = (i ≤ length list) × Passed (Leaves m (has 
 abbrev μ-loop : tie.MeasureT-loop
 μ-loop m sets room list i₀ i = length list - i
 
-box : (c : tie.In-loop Inv-loop μ-loop) → getD (c .before .before .args .list .now) (c .before .loop .i) 0 < 3 ^ c .before .before .args .m
-box c = boxes-at _ _ _ (c .before .before .pre .2) (c .loop-test .taken)
-
-small : (c : tie.In-loop Inv-loop μ-loop) → getD (c .before .before .args .list .now) (c .before .loop .i) 0 < 243
-small c = omega (arith, box c, pow-le-pow-right {n = 3} (omega arith) {i = c .before .before .args .m} {j = 5} (c .before .before .pre .0))
-
 loop-holds : tie.Need-loop-holds Inv-loop μ-loop
 loop-holds c = (omega arith, passed-none _)
 
-cast-s : tie.Need-cast-s Inv-loop μ-loop
-cast-s c = omega (arith, c .shared-slice-known .given (c .before .before .loop .i) .fits)
-
-mul-s : tie.Need-mul-s Inv-loop μ-loop
-mul-s c = omega (arith, small (c .before))
-
-element-copy-out-s : tie.Need-element-copy-out-s Inv-loop μ-loop
-element-copy-out-s c = omega (arith, small (c .before))
+set-at-requires : tie.Need-set-at-requires Inv-loop μ-loop
+set-at-requires c κs = (c .before .before .before .pre .0, c .before .before .before .pre .1, c .before .before .before .pre .2, c .loop-test .taken)
 
 returns : tie.Need-returns Inv-loop μ-loop
 returns c =
-    let set = c .before .before .before .before .before .pre .1 _ (box (c .before .before .before)) in
-    let h = c .before .before .before .loop-test .taken in
-    first-here _ _ _ h (c .before .before .before .before .loop .inv .1) (leaves _ (c .before .before .before .before .before .args .list .now) _ _ h (set .0) (set .1) _ (c .before .before .before .before .before .fits .room .fits) (c .if1 .taken))
+    let set = c .before .set-at .ensures in
+    let h = c .before .before .loop-test .taken in
+    first-here _ _ _ h (c .before .before .before .loop .inv .1) (leaves _ (c .before .before .before .before .before .args .list .now) _ _ h set _ (c .before .before .before .before .before .fits .room .fits) (c .if1 .taken))
 
 loop-again : tie.Need-loop-again Inv-loop μ-loop
 loop-again c =
-    let set = c .before .before .before .before .before .pre .1 _ (box (c .before .before .before)) in
-    let h = c .before .before .before .loop-test .taken in
-    (omega (arith, h), passed-more _ _ (c .before .before .before .before .loop .inv .1) (leaves-not _ (c .before .before .before .before .before .args .list .now) _ _ h (set .0) (set .1) _ (c .before .before .before .before .before .fits .room .fits) (c .if1 .left)))
+    let set = c .before .set-at .ensures in
+    let h = c .before .before .loop-test .taken in
+    (omega (arith, h), passed-more _ _ (c .before .before .before .loop .inv .1) (leaves-not _ (c .before .before .before .before .before .args .list .now) _ _ h set _ (c .before .before .before .before .before .fits .room .fits) (c .if1 .left)))
 
 returns-2 : tie.Need-returns-2 Inv-loop μ-loop
 returns-2 c = first-nowhere _ _ _ (c .before .loop .inv .0) (c .loop-test .left) (c .before .loop .inv .1)
 
 pub leaving-spec : {M : Type 1} → statement M
 leaving-spec = tie.close (tie.spec
-    Inv-loop μ-loop loop-holds (λ c. omega arith) cast-s mul-s element-copy-out-s returns (λ c. omega arith) (λ c. omega arith) loop-again returns-2)
+    Inv-loop μ-loop loop-holds set-at-requires returns (λ c. omega arith) (λ c. omega arith) loop-again returns-2)
