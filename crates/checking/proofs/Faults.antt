@@ -10,7 +10,7 @@ use Rattle.lists.specs.Lists.{Boxes, covered, Fits}
 use Rattle.lists.proofs.Places.{boxes-at, boxes-all, covered-at, covered-by, apart-at, apart-all}
 use Rattle.checking.specs.declared.Fault.{Fault}
 use Rattle.checking.specs.declared.Fault.the-variants as fault
-use Rattle.checking.specs.declared.Finding.the-variants.{Faulty}
+use Rattle.checking.specs.declared.Finding.the-variants.{Fitting, Faulty}
 use Rattle.checking.specs.Faults.{NoBox, Overlaps, Leaves, Uncovered, Has, faultNumber, FirstFault, Judged}
 use Rattle.checking.specs.Parts.{FirstIn}
 
@@ -76,41 +76,37 @@ module _ (m : ℕ) (need room : ℕ → Bool) (l : List ℕ) where
     first-kind = w;
   }
 
+  -- kind by kind, each of which is sought where none of those before was found
+
   pub no-box-at : (i : ℕ) → FirstIn l (NoBox m l) i → i < length l → Judged m need room l (Faulty fault.NoBox i)
   no-box-at i = place fault.NoBox (NoBox m l) i (λ j. refl) without-one
 
-  -- where each number is a box
-  module _ (u : ℕ) (no-box : FirstIn l (NoBox m l) u) (all-boxes : length l ≤ u) where
-    pub each-box : Boxes m l
-    each-box = boxes-all m l (λ i h. below-or _ (3 ^ m) (λ k. k) (λ k. absurd (nowhere (NoBox m l) u no-box all-boxes i (h, k))))
+  pub all-boxes : (i : ℕ) → FirstIn l (NoBox m l) i → length l ≤ i → Without 2
+  all-boxes i s h = without-more fault.NoBox without-one (nowhere (NoBox m l) i s h)
 
-    boxed : Without 2
-    boxed = without-more fault.NoBox without-one (nowhere (NoBox m l) u no-box all-boxes)
+  pub each-box : Without 2 → Boxes m l
+  each-box w = boxes-all m l (λ i h. below-or _ (3 ^ m) (λ k. k) (λ k. absurd (w fault.NoBox (omega arith) i (h, k))))
 
-    pub overlap-at : (i : ℕ) → FirstIn l (Overlaps m l) i → i < length l → Judged m need room l (Faulty fault.Overlap i)
-    overlap-at i = place fault.Overlap (Overlaps m l) i (λ j. refl) boxed
+  pub overlap-at : Without 2 → (i : ℕ) → FirstIn l (Overlaps m l) i → i < length l → Judged m need room l (Faulty fault.Overlap i)
+  overlap-at w i = place fault.Overlap (Overlaps m l) i (λ j. refl) w
 
-    -- and none overlaps an earlier one
-    module _ (v : ℕ) (overlap : FirstIn l (Overlaps m l) v) (all-apart : length l ≤ v) where
-      apart : Without 3
-      apart = without-more fault.Overlap boxed (nowhere (Overlaps m l) v overlap all-apart)
+  pub all-apart : Without 2 → (i : ℕ) → FirstIn l (Overlaps m l) i → length l ≤ i → Without 3
+  all-apart w i s h = without-more fault.Overlap w (nowhere (Overlaps m l) i s h)
 
-      pub leaves-at : (i : ℕ) → FirstIn l (Leaves m room l) i → i < length l → Judged m need room l (Faulty fault.Leaves i)
-      leaves-at i = place fault.Leaves (Leaves m room l) i (λ j. refl) apart
+  pub leaves-at : Without 3 → (i : ℕ) → FirstIn l (Leaves m room l) i → i < length l → Judged m need room l (Faulty fault.Leaves i)
+  leaves-at w i = place fault.Leaves (Leaves m room l) i (λ j. refl) w
 
-      -- and none leaves the room
-      module _ (w : ℕ) (leaving : FirstIn l (Leaves m room l) w) (all-inside : length l ≤ w) where
-        inside : Without 4
-        inside = without-more fault.Leaves apart (nowhere (Leaves m room l) w leaving all-inside)
+  pub all-inside : Without 3 → (i : ℕ) → FirstIn l (Leaves m room l) i → length l ≤ i → Without 4
+  all-inside w i s h = without-more fault.Leaves w (nowhere (Leaves m room l) i s h)
 
-        pub uncovered-at : (c : ℕ) → Uncovered m need l c → ((d : ℕ) → d < c → Uncovered m need l d → ⊥) → Judged m need room l (Faulty fault.Uncovered c)
-        uncovered-at c x n = Judged.faulty record { here = x; first-place = n; first-kind = inside }
+  pub uncovered-at : Without 4 → (c : ℕ) → Uncovered m need l c → ((d : ℕ) → d < c → Uncovered m need l d → ⊥) → Judged m need room l (Faulty fault.Uncovered c)
+  uncovered-at w c x n = Judged.faulty record { here = x; first-place = n; first-kind = w }
 
-        pub fitting : ((c : ℕ) → Uncovered m need l c → ⊥) → Fits m need room l
-        fitting n = faultless-fits (λ f. without-more fault.Uncovered inside n f (known f))
-          where
-            known : (f : Fault) → faultNumber f < 5
-            known fault.NoBox = omega arith
-            known fault.Overlap = omega arith
-            known fault.Leaves = omega arith
-            known fault.Uncovered = omega arith
+  pub all-covered : Without 4 → ((c : ℕ) → Uncovered m need l c → ⊥) → Judged m need room l Fitting
+  all-covered w n = Judged.fits (faultless-fits (λ f. without-more fault.Uncovered w n f (known f)))
+    where
+      known : (f : Fault) → faultNumber f < 5
+      known fault.NoBox = omega arith
+      known fault.Overlap = omega arith
+      known fault.Leaves = omega arith
+      known fault.Uncovered = omega arith

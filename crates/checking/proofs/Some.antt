@@ -23,7 +23,7 @@ use Rattle.checking.specs.Faults.{NoBox, Overlaps, Leaves, Uncovered, Ju
 use Rattle.checking.specs.Answers.{Checked}
 use Rattle.checking.specs.Parts.{FirstIn}
 use Rattle.checking.proofs.Firsts.{Passed, passed-none, passed-more}
-use Rattle.checking.proofs.Faults.{no-box-at, overlap-at, leaves-at, uncovered-at, fitting}
+use Rattle.checking.proofs.Faults.{no-box-at, all-boxes, overlap-at, all-apart, leaves-at, all-inside, uncovered-at, all-covered}
 
 abbrev Known : Type 0 → Type 0
 Known P = P ⊎ (P → ⊥)
@@ -87,11 +87,13 @@ module _ (m : ℕ) (need room : ℕ → Bool) (l : List ℕ) where
       let d = first-in (Leaves m room l) leaves-known l in
       let e = first-below (Uncovered m need l) (λ c. differ (need c) (covered m l c)) (2 ^ m) in
       below-or (a .0) (length l) (λ h. (Faulty fault.NoBox (a .0), no-box-at m need room l (a .0) (a .1) h))
-      (λ ha. below-or (b .0) (length l) (λ h. (Faulty fault.Overlap (b .0), overlap-at m need room l (a .0) (a .1) ha (b .0) (b .1) h))
-      (λ hb. below-or (d .0) (length l) (λ h. (Faulty fault.Leaves (d .0), leaves-at m need room l (a .0) (a .1) ha (b .0) (b .1) hb (d .0) (d .1) h))
-      (λ hd. below-or (e .0) (2 ^ m)
-      (λ h. (Faulty fault.Uncovered (e .0), uncovered-at m need room l (a .0) (a .1) ha (b .0) (b .1) hb (d .0) (d .1) hd (e .0) (e .3 h) (e .2)))
-      (λ he. (Fitting, Judged.fits (fitting m need room l (a .0) (a .1) ha (b .0) (b .1) hb (d .0) (d .1) hd (λ c x. e .2 c (omega (arith, he, small c (x .0))) x)))))))
+      (λ h. let boxes = all-boxes m need room l (a .0) (a .1) h in
+      below-or (b .0) (length l) (λ h. (Faulty fault.Overlap (b .0), overlap-at m need room l boxes (b .0) (b .1) h))
+      (λ h. let apart = all-apart m need room l boxes (b .0) (b .1) h in
+      below-or (d .0) (length l) (λ h. (Faulty fault.Leaves (d .0), leaves-at m need room l apart (d .0) (d .1) h))
+      (λ h. let inside = all-inside m need room l apart (d .0) (d .1) h in
+      below-or (e .0) (2 ^ m) (λ h. (Faulty fault.Uncovered (e .0), uncovered-at m need room l inside (e .0) (e .3 h) (e .2)))
+      (λ h. (Fitting, all-covered m need room l inside (λ c x. e .2 c (omega (arith, h, small c (x .0))) x))))))
 
 pub check-some : (most : ℕ) (s : Sheet) (l : List ℕ) → (x : Finding) × Checked most s l x
 check-some most s l =
