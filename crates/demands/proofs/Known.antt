@@ -55,8 +55,8 @@ ends-early =
     (unpaired (After 12) (λ x h. after-some 12 x) (ascii "3") (no-ones (omega arith) (omega arith, omega arith) (λ h d. omega arith))))
 
 -- the last number is no box, whatever the first two are
-nine : Holds (drawn 2 (2 ∷ 3 ∷ []) (5 ∷ 5 ∷ 9 ∷ []) (Faulty NoBox 2))
-nine = no-box-at 2 (among (2 ∷ 3 ∷ [])) (among (2 ∷ 3 ∷ [])) (5 ∷ 5 ∷ 9 ∷ []) 2 (record { inside = omega arith; none-before = before; here = λ h. omega arith }) (omega arith)
+nine : Holds (drawn 2 (1 ∷ 2 ∷ 3 ∷ []) (5 ∷ 5 ∷ 9 ∷ []) (Faulty NoBox 2))
+nine = no-box-at 2 (among (1 ∷ 2 ∷ 3 ∷ [])) (among (1 ∷ 2 ∷ 3 ∷ [])) (5 ∷ 5 ∷ 9 ∷ []) 2 (record { inside = omega arith; none-before = before; here = λ h. omega arith }) (omega arith)
   where
     before : (j : ℕ) → j < 2 → 9 ≤ getD (5 ∷ 5 ∷ 9 ∷ []) j 0 → ⊥
     before zero h k = omega arith

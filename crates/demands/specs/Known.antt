@@ -29,7 +29,7 @@ table =
     ∷ sheet 2 (1 ∷ 2 ∷ 3 ∷ []) (1 ∷ 5 ∷ [])
     ∷ sheet 2 (0 ∷ 1 ∷ 2 ∷ 3 ∷ []) (8 ∷ [])
     ∷ sheet 3 (1 ∷ 2 ∷ 4 ∷ 7 ∷ []) (1 ∷ 3 ∷ 9 ∷ 13 ∷ [])
-    ∷ drawn 2 (2 ∷ 3 ∷ []) (5 ∷ 5 ∷ 9 ∷ []) (Faulty NoBox 2)
+    ∷ drawn 2 (1 ∷ 2 ∷ 3 ∷ []) (5 ∷ 5 ∷ 9 ∷ []) (Faulty NoBox 2)
     ∷ time (ascii "0:00") (Value 0 Minutes)
     ∷ time (ascii "599:59") (Value 35999 Minutes)
     ∷ time (ascii "600:00") (Fault 2)

@@ -147,13 +147,15 @@ fn drawn(list: &[u8]) {
     print_list(with_class(2, &class), list);
 }
 
-// One of each fault; and more than one, of which the first in the order of kinds is told.
 fn lists_that_others_drew() {
+    drawn(b"\x01\x05");
     drawn(b"\x05\x01");
+    drawn(b"\x04\x01\x03");
     drawn(b"\x05\x05\x09");
-    drawn(b"\x05\x07\x01");
-    drawn(b"\x05\x02");
-    drawn(b"\x05");
+    drawn(b"\x08\x00\x01");
+    drawn(b"\x00\x01\x01");
+    drawn(b"\x05\x00");
+    drawn(b"\x01");
     drawn(b"");
 }
 
