@@ -1,8 +1,9 @@
 -- Fault by fault: what is not found is nowhere in the list, and what is found is the first.
-use Prim.Native.Nat.{_-_, _<_, _^_}
+use Prim.Native.Nat.{ℕ, _<_, _^_}
 use native.Mathlib.Omega.{arith}
-use lib.Bits.{bitAnd}
-use lib.Count.{trailing-le}
+use mir.Syntax.{w64}
+use mir.Val.{Fits}
+use lib.Count.{trailingZeros, trailing-le}
 use borrow.Author.Needs.{needs}
 use Rattle.lists.specs.Lists.{Boxes}
 use Rattle.sets.specs.Sets.{has}
@@ -14,6 +15,9 @@ use Rattle.checking.proofs.judged.Tie as tie
 
 boxed : (c : tie.Else1) → Boxes (c .before .before .before .args .m) (c .before .before .before .args .list .now)
 boxed c = each-box _ (has (c .before .before .before .args .need)) (has (c .before .before .before .args .room)) _ _ (c .before .no-box .ensures) (c .if1 .left)
+
+zeros-fit : (s : ℕ) → Fits w64 (trailingZeros 32 s)
+zeros-fit s = omega (arith, trailing-le 32 s)
 
 wide : (c : tie.After-struct-known) → c .before .united .result .covered < 2 ^ 32
 wide c = search needs
@@ -34,7 +38,7 @@ returns-3 : tie.Need-returns-3
 returns-3 c = leaves-at _ _ _ _ _ (c .before .before .before .before .before .before .before .before .before .no-box .ensures) (c .before .before .before .before .before .before .before .before .if1 .left) _ (c .before .before .before .before .before .united .ensures .first) (c .before .before .before .if2 .left) _ (c .before .leaving .ensures) (c .if3 .taken)
 
 cast-t21 : tie.Need-cast-t21
-cast-t21 c = omega (arith, trailing-le 32 (bitAnd (c .before .before .before .before .before .before .before .before .before .before .before .before .before .args .need) (4294967295 - c .before .before .before .before .before .before .before .united .result .covered)))
+cast-t21 c = zeros-fit _
 
 returns-4 : tie.Need-returns-4
 returns-4 c =
