@@ -5,7 +5,7 @@ ghost use Rattle.sheet.specs.Limits.{mostMarks};
 ghost use Rattle.sheet.specs.Sound.{ClassReady};
 ghost use Rattle.sets.specs.Sets.{setMarks, has, Sets};
 ghost use Rattle.lists.specs.Lists.{Boxes};
-ghost use Rattle.checking.specs.Faults.{NoBox, Overlaps, Leaves, faultNumber, Judged};
+ghost use Rattle.checking.specs.Faults.{NoBox, Leaves, faultNumber, Judged};
 ghost use Rattle.checking.specs.Answers.{Checked, verdictOf};
 ghost use Rattle.checking.specs.Parts.{FirstIn, United};
 use boxes;

@@ -3,7 +3,6 @@ use Prim.Native.Nat.{_≤_, _<_, _-_, _^_}
 use native.Mathlib.Omega.{arith}
 use native.Mathlib.Nat.{pow-le-pow-right}
 use lib.ListN.{length, getD}
-use borrow.Author.Needs.{needs}
 use Rattle.lists.proofs.Places.{boxes-at}
 use Rattle.sets.specs.Sets.{has}
 use Rattle.checking.specs.Faults.{Leaves}

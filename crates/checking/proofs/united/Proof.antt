@@ -1,10 +1,8 @@
 -- No box before i overlaps an earlier one, and the union is what they cover.
 use Prim.Native.Nat.{_≤_, _<_, _-_, _^_}
-use mathlib.Core.Path.{_≡_}
 use native.Mathlib.Omega.{arith}
 use native.Mathlib.Nat.{pow-le-pow-right}
 use lib.ListN.{length, getD}
-use borrow.Author.Needs.{needs}
 use Rattle.lists.proofs.Places.{boxes-at}
 use Rattle.checking.specs.Faults.{Overlaps}
 use Rattle.checking.proofs.Firsts.{Passed, passed-none, passed-more, first-here, first-nowhere}
