@@ -1,7 +1,7 @@
 -- A list fits exactly if it has no fault; and what was found fault by fault, in their order, is the first place of the first one.
 use Prim.Native.Nat.{ℕ, zero, suc, _+_, _^_, _<_, _≤_}
 use mathlib.Core.Path.{_≡_, refl, sym, _∙_, ap, subst}
-use mathlib.Core.Bool.{Bool, true, false}
+use mathlib.Core.Bool.{Bool}
 use mathlib.Core.List.{List}
 use native.Mathlib.Omega.{arith}
 use lib.ListN.{length}
@@ -11,7 +11,7 @@ use Rattle.lists.proofs.Places.{boxes-at, boxes-all, covered-at, covered-by, ap
 use Rattle.checking.specs.declared.Fault.{Fault}
 use Rattle.checking.specs.declared.Fault.the-variants as fault
 use Rattle.checking.specs.declared.Finding.the-variants.{Fitting, Faulty}
-use Rattle.checking.specs.Faults.{NoBox, Overlaps, Leaves, Uncovered, Has, faultNumber, FirstFault, Judged}
+use Rattle.checking.specs.Faults.{NoBox, Overlaps, Leaves, Uncovered, Has, faultNumber, Judged}
 use Rattle.checking.specs.Parts.{FirstIn}
 
 -- the fault of a number

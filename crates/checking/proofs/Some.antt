@@ -12,7 +12,6 @@ use Rattle.boxes.specs.Boxes.{contains}
 use Rattle.boxes.proofs.Boxes.{contains-combination}
 use Rattle.lists.specs.Lists.{covered, Small}
 use Rattle.lists.specs.Pottosin.{Joined}
-use Rattle.sheet.specs.Sound.{ClassReady}
 use Rattle.sheet.specs.declared.Sheet.{Sheet}
 use Rattle.sheet.proofs.Ready.{class-ready-or}
 use Rattle.listing.proofs.Finds.{class-small}

@@ -1,6 +1,6 @@
 -- A line whose running time is written in another form asks for the same call: a running time has no space, so that a line is cut in one way at its last
 -- space; and it has a colon, which no line without a running time has.
-use Prim.Native.Nat.{ℕ, _+_}
+use Prim.Native.Nat.{ℕ}
 use mathlib.Core.Path.{_≡_, refl, sym, ap, _∙_, subst}
 use mathlib.Core.List.{List, [], _∷_, _++_, append-assoc}
 use native.Mathlib.Omega.{arith}

@@ -1,6 +1,6 @@
 -- What a good text draws: 1 to `most` marks, the union of its cube lines as class, and nothing held. Line by line: a cube adds its combinations, and no
 -- other line does.
-use Prim.Native.Nat.{ℕ, _+_, _^_, _<_}
+use Prim.Native.Nat.{ℕ, _^_, _<_}
 use mathlib.Core.Path.{_≡_, refl, sym, ap, subst, _∙_}
 use mathlib.Core.Bool.{Bool, true, false, not, cond, _&&_, _||_}
 use mathlib.Core.List.{List, [], _∷_, _++_, cons≢nil}

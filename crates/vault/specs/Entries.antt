@@ -13,7 +13,6 @@ use Rattle.sheet.specs.declared.Value.{Value}
 use Rattle.stored.specs.Answers.{Reads, Writes}
 use Rattle.stored.specs.declared.Read.{Read}
 use Rattle.checking.specs.Answers.{Checked, verdictOf}
-use Rattle.checking.specs.declared.Finding.{Finding}
 use Rattle.checking.specs.declared.Verdict.{Verdict}
 use Rattle.vault.specs.declared.Reply.{Reply}
 

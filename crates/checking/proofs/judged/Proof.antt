@@ -1,8 +1,9 @@
 -- Fault by fault: what is not found is nowhere in the list, and what is found is the first.
-use Prim.Native.Nat.{ℕ, _-_, _<_, _^_}
+use Prim.Native.Nat.{ℕ, _<_, _^_}
 use native.Mathlib.Omega.{arith}
-use lib.Bits.{bitAnd}
-use lib.Count.{trailing-le}
+use mir.Syntax.{w64}
+use mir.Val.{Fits}
+use lib.Count.{trailingZeros, trailing-le}
 use borrow.Author.Needs.{needs}
 use Rattle.sets.specs.Sets.{has}
 use Rattle.checking.proofs.Faults.{Without, no-box-at, all-boxes, each-box, overlap-at, all-apart, leaves-at, all-inside, uncovered-at, all-covered}
@@ -23,6 +24,9 @@ apart c = all-apart _ _ _ _ (boxes (c .before .before .before .before .before)) 
 inside : (c : tie.Else3) → Past (c .before .before .before .before .before .before .before .before .before .before .before) 4
 inside c = all-inside _ _ _ _ (apart (c .before .before .before)) _ (c .before .leaving .ensures) (c .if3 .left)
 
+zeros-fit : (s : ℕ) → Fits w64 (trailingZeros 32 s)
+zeros-fit s = omega (arith, trailing-le 32 s)
+
 wide : (c : tie.After-struct-known) → c .before .united .result .covered < 2 ^ 32
 wide c = search needs
 
@@ -42,7 +46,7 @@ returns-3 : tie.Need-returns-3
 returns-3 c = leaves-at _ _ _ _ (apart (c .before .before .before)) _ (c .before .leaving .ensures) (c .if3 .taken)
 
 cast-t21 : tie.Need-cast-t21
-cast-t21 c = let s = c .before .before .before .before .before .before .before .before .before .before .before .before .before .args in omega (arith, trailing-le 32 (bitAnd (s .need) (4294967295 - c .before .before .before .before .before .before .before .united .result .covered)))
+cast-t21 c = zeros-fit _
 
 returns-4 : tie.Need-returns-4
 returns-4 c =

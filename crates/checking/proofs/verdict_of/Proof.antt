@@ -1,9 +1,8 @@
 -- Each case is its row of the definition.
-use mathlib.Core.Path.{sym, _∙_, ap, ap₂}
+use mathlib.Core.Path.{sym, _∙_, ap}
 use Prim.Native.Nat.{ℕ}
 use borrow.Author.Needs.{needs}
 use Rattle.checking.specs.Answers.{verdictOf}
-use Rattle.checking.specs.declared.Verdict.{Verdict}
 use Rattle.checking.proofs.verdict_of.Statement.{statement}
 use Rattle.checking.proofs.verdict_of.Tie as tie
 
