@@ -1,6 +1,6 @@
 -- A list fits exactly if it has no fault; and what was found fault by fault, in their order, is the first place of the first one.
 use Prim.Native.Nat.{ℕ, zero, suc, _+_, _^_, _<_, _≤_}
-use mathlib.Core.Path.{_≡_, refl, sym, _∙_, ap, subst}
+use mathlib.Core.Path.{_≡_, refl, sym, _∙_, ap, subst, transport}
 use mathlib.Core.Bool.{Bool}
 use mathlib.Core.List.{List}
 use native.Mathlib.Omega.{arith}
@@ -29,6 +29,12 @@ numbered-back fault.Overlap = refl
 numbered-back fault.Leaves = refl
 numbered-back fault.Uncovered = refl
 
+number-in : (f : Fault) → (1 ≤ faultNumber f) × (faultNumber f ≤ 4)
+number-in fault.NoBox = (omega arith, omega arith)
+number-in fault.Overlap = (omega arith, omega arith)
+number-in fault.Leaves = (omega arith, omega arith)
+number-in fault.Uncovered = (omega arith, omega arith)
+
 pub number-same : (f g : Fault) → faultNumber f ≡ faultNumber g → f ≡ g
 number-same f g e = sym (numbered-back f) ∙ ap numbered e ∙ numbered-back g
 
@@ -39,9 +45,12 @@ module _ (m : ℕ) (need room : ℕ → Bool) (l : List ℕ) where
   fits-faultless t fault.Leaves i x = clash (t .inside (x .1 .0) (covered-at m l i (x .1 .0) (x .0) (x .1 .1))) (x .1 .2)
   fits-faultless t fault.Uncovered c x = clash (t .covers c (x .0)) (x .1)
 
+  boxes-fit : ((i : ℕ) → Has m need room l fault.NoBox i → ⊥) → Boxes m l
+  boxes-fit n = boxes-all m l (λ i h. below-or _ (3 ^ m) (λ k. k) (λ k. absurd (n i (h, k))))
+
   pub faultless-fits : ((f : Fault) (i : ℕ) → Has m need room l f i → ⊥) → Fits m need room l
   faultless-fits n = record {
-    boxes = boxes-all m l (λ i h. below-or _ (3 ^ m) (λ k. k) (λ k. absurd (n fault.NoBox i (h, k))));
+    boxes = boxes-fit (n fault.NoBox);
     apart = apart-all m l (λ i j h k s. n fault.Overlap i (h, (j, k, s)));
     covers = λ c e. if (covered m l c) (λ y. y) (λ y. absurd (n fault.Uncovered c (e, y)));
     inside = λ c e. let r = covered-by m l c e in if (room c) (λ y. y) (λ y. absurd (n fault.Leaves (r .0) (r .1, (c, r .2, y))));
@@ -52,10 +61,7 @@ module _ (m : ℕ) (need room : ℕ → Bool) (l : List ℕ) where
   Without k = (g : Fault) → faultNumber g < k → (j : ℕ) → Has m need room l g j → ⊥
 
   without-one : Without 1
-  without-one fault.NoBox h = absurd (omega arith)
-  without-one fault.Overlap h = absurd (omega arith)
-  without-one fault.Leaves h = absurd (omega arith)
-  without-one fault.Uncovered h = absurd (omega arith)
+  without-one g h = absurd (omega (arith, number-in g .0))
 
   without-more : (f : Fault) → Without (faultNumber f) → ((j : ℕ) → Has m need room l f j → ⊥) → Without (faultNumber f + 1)
   without-more f w n g h j x =
@@ -71,8 +77,8 @@ module _ (m : ℕ) (need room : ℕ → Bool) (l : List ℕ) where
   place : (f : Fault) (P : ℕ → Type 0) (i : ℕ) → ((j : ℕ) → Has m need room l f j ≡ ((j < length l) × P j)) → Without (faultNumber f) → FirstIn l P i → i < length l
       → Judged m need room l (Faulty f i)
   place f P i e w s h = Judged.faulty record {
-    here = subst (λ (X : Type 0). X) (sym (e i)) (h, s .here h);
-    first-place = λ j k x. s .none-before j k (subst (λ (X : Type 0). X) (e j) x .1);
+    here = transport (sym (e i)) (h, s .here h);
+    first-place = λ j k x. s .none-before j k (transport (e j) x .1);
     first-kind = w;
   }
 
@@ -85,7 +91,7 @@ module _ (m : ℕ) (need room : ℕ → Bool) (l : List ℕ) where
   all-boxes i s h = without-more fault.NoBox without-one (nowhere (NoBox m l) i s h)
 
   pub each-box : Without 2 → Boxes m l
-  each-box w = boxes-all m l (λ i h. below-or _ (3 ^ m) (λ k. k) (λ k. absurd (w fault.NoBox (omega arith) i (h, k))))
+  each-box w = boxes-fit (w fault.NoBox (omega arith))
 
   pub overlap-at : Without 2 → (i : ℕ) → FirstIn l (Overlaps m l) i → i < length l → Judged m need room l (Faulty fault.Overlap i)
   overlap-at w i = place fault.Overlap (Overlaps m l) i (λ j. refl) w
@@ -103,10 +109,4 @@ module _ (m : ℕ) (need room : ℕ → Bool) (l : List ℕ) where
   uncovered-at w c x n = Judged.faulty record { here = x; first-place = n; first-kind = w }
 
   pub all-covered : Without 4 → ((c : ℕ) → Uncovered m need l c → ⊥) → Judged m need room l Fitting
-  all-covered w n = Judged.fits (faultless-fits (λ f. without-more fault.Uncovered w n f (known f)))
-    where
-      known : (f : Fault) → faultNumber f < 5
-      known fault.NoBox = omega arith
-      known fault.Overlap = omega arith
-      known fault.Leaves = omega arith
-      known fault.Uncovered = omega arith
+  all-covered w n = Judged.fits (faultless-fits (λ f. without-more fault.Uncovered w n f (omega (arith, number-in f .1))))

@@ -24,6 +24,7 @@ use Rattle.checking.specs.Parts.{FirstIn}
 use Rattle.checking.proofs.Firsts.{Passed, passed-none, passed-more}
 use Rattle.checking.proofs.Faults.{no-box-at, all-boxes, overlap-at, all-apart, leaves-at, all-inside, uncovered-at, all-covered}
 
+-- it holds, or it does not
 abbrev Known : Type 0 → Type 0
 Known P = P ⊎ (P → ⊥)
 

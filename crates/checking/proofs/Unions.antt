@@ -1,18 +1,18 @@
 -- A box by its set of combinations, against the union of those before it, and against the room.
 use Prim.Native.Nat.{ℕ, _+_, _-_, _^_, _<_, _≤_}
 use mathlib.Core.Path.{_≡_, sym, _∙_, ap, ap₂}
-use mathlib.Core.Bool.{Bool, true, not, _&&_, _||_}
+use mathlib.Core.Bool.{Bool, true, not, _||_}
 use mathlib.Core.List.{List}
 use native.Mathlib.Omega.{arith}
 use native.Mathlib.Numerals.{add-one}
-use lib.Bits.{bitAnd, bitOr, and-le-l}
+use lib.Bits.{bitAnd, bitOr}
 use lib.Count.{trailingZeros}
 use lib.ListN.{length, getD, take}
 use lib.Seq.{getD-take, length-take-le, take-suc, take-all}
-use Rattle.ground.proofs.Cases.{if, clash, below-or, and-left, and-right}
+use Rattle.ground.proofs.Cases.{if, clash, below-or}
 use Rattle.boxes.specs.Boxes.{contains}
 use Rattle.sets.specs.Sets.{has}
-use Rattle.sets.proofs.Bits.{has-and, has-or, has-not, has-zero, has-high, zeros-has, zeros-below, shared, not-shared}
+use Rattle.sets.proofs.Bits.{has-and, has-or, has-not, has-zero, has-high, zeros-below, lowest-shared, shared, not-shared}
 use Rattle.lists.specs.Lists.{covered}
 use Rattle.lists.proofs.Count.{covered-last}
 use Rattle.lists.proofs.Places.{covered-at, covered-by}
@@ -86,8 +86,7 @@ module _ (m need : ℕ) (l : List ℕ) (small : need < 2 ^ 32) (i u : ℕ) (wide
   missed-lowest n =
       let s = bitAnd need (4294967295 - u) in
       let c = trailingZeros 32 s in
-      let e : (has need c && has (4294967295 - u) c) ≡ true = sym (has-and c need (4294967295 - u)) ∙ zeros-has 32 s (omega (arith, and-le-l need (4294967295 - u))) n in
-      let y = and-left (has need c) _ e in (
-        (y, if (covered m l c) (λ k. clash (and-right (has need c) _ e) (uncovered-is c y ∙ ap not k)) (λ k. k)),
+      let y = lowest-shared need (4294967295 - u) small n in (
+        (y .0, if (covered m l c) (λ k. clash (y .1) (uncovered-is c (y .0) ∙ ap not k)) (λ k. k)),
         λ d h x. clash (uncovered-has d x) (zeros-below 32 s d h),
       )

@@ -1,6 +1,6 @@
 // Whether a list that others drew fits the class of a sheet, and else its first fault. Any bytes are taken as box numbers, in any order and number.
 ghost use mathlib.Core.Path.{_≡_};
-ghost use Prim.Native.Nat.{_^_, _<_, _≤_};
+ghost use Prim.Native.Nat.{_<_, _≤_};
 ghost use lib.ListN.{length, getD};
 ghost use Rattle.sheet.specs.Limits.{mostMarks};
 ghost use Rattle.sheet.specs.Sound.{ClassReady};
@@ -103,7 +103,7 @@ fn leaving(m: usize, sets: &[u32; 243], room: u32, list: &[u8]) -> usize
 
 // What is found of a list that should cover all of `need` inside `room`, sets of combinations of m marks.
 fn judged(m: usize, need: u32, room: u32, list: &[u8]) -> Finding
-    requires { ⌜ (m ≤ setMarks) × (need < 2 ^ (2 ^ m)) ⌝ }
+    requires { ⌜ m ≤ setMarks ⌝ }
     ensures { λ r. ⌜ Judged m (has need) (has room) (now (list .entry)) r ⌝ }
 {
     let n = list.len();

@@ -10,7 +10,7 @@ use Rattle.sheet.specs.Limits.{mostMarks}
 use Rattle.sheet.specs.Sound.{ClassReady}
 use Rattle.sheet.specs.declared.Sheet.{Sheet}
 use Rattle.sheet.specs.declared.Value.{Value}
-use Rattle.listing.specs.Listing.{Searched, Listed}
+use Rattle.listing.specs.Listing.{Listed}
 use Rattle.checking.specs.Faults.{Judged}
 use Rattle.checking.specs.Answers.{Checked, verdictOf}
 use Rattle.checking.specs.declared.Fault.{Fault}
@@ -24,20 +24,12 @@ use Rattle.vault.specs.declared.Reply.{Reply}
 use Rattle.vault.proofs.Settled.{vault-check-settled}
 use Rattle.demands.specs.Checks.{FitsClass, FirstFaultIn, CheckedIn, Checks}
 use Rattle.demands.proofs.Demand2.{demand-2}
+use Rattle.demands.proofs.Sevens.{SevenIf, as-listed}
 
-not-seven : {s : Sheet} {area later : List ℕ} {v : Value} → ClassReady mostMarks s → Listed mostMarks s area v later → v .number ≡ 7 → ⊥
-not-seven r (Listed.spoiled n) e = n r
-not-seven r (Listed.short w h) e = omega arith
-not-seven r (Listed.searched w h (Searched.none n)) e = omega arith
-not-seven r (Listed.searched w h (Searched.given f)) e = omega arith
-
-seven : {s : Sheet} {l area later : List ℕ} {x : Finding} {v : Value} → Checked mostMarks s l x → Listed mostMarks s area v later
-    → (verdictOf x .answer ≡ 7 → v .number ≡ 7) × (v .number ≡ 7 → verdictOf x .answer ≡ 7)
-seven (Checked.spoiled n) (Listed.spoiled k) = (λ e. refl, λ e. refl)
-seven (Checked.spoiled n) (Listed.short r h) = absurd (n r)
-seven (Checked.spoiled n) (Listed.searched r h w) = absurd (n r)
-seven (Checked.judged r (Judged.fits f)) w = (λ (e : _≡_ {A = ℕ} 0 7). absurd (omega arith), λ e. absurd (not-seven r w e))
-seven (Checked.judged r (Judged.faulty f)) w = (λ (e : _≡_ {A = ℕ} 0 7). absurd (omega arith), λ e. absurd (not-seven r w e))
+checked-seven : {s : Sheet} {l : List ℕ} {x : Finding} → Checked mostMarks s l x → SevenIf s (verdictOf x .answer)
+checked-seven (Checked.spoiled n) = (λ e. n, λ k. refl)
+checked-seven (Checked.judged r (Judged.fits f)) = (λ (e : _≡_ {A = ℕ} 0 7). absurd (omega arith), λ k. absurd (k r))
+checked-seven (Checked.judged r (Judged.faulty f)) = (λ (e : _≡_ {A = ℕ} 0 7). absurd (omega arith), λ k. absurd (k r))
 
 accepted : {s : Sheet} {l : List ℕ} → Checked mostMarks s l Fitting → ClassReady mostMarks s × FitsClass s l
 accepted (Checked.judged r (Judged.fits f)) = (r, f)
@@ -85,7 +77,7 @@ pub checks : Checks
 checks = record {
   some = check-some mostMarks;
   one = check-settled;
-  seven = seven;
+  seven = λ c. as-listed (checked-seven c);
   accepted = λ c. accepted c .1;
   accepts = accepts;
   any-order = any-order;

@@ -17,10 +17,9 @@ use Rattle.print.specs.Texts.{sign}
 use Rattle.print.proofs.Patterns.{pattern-mark}
 use Rattle.sheet.specs.Limits.{mostMarks, entries}
 use Rattle.sheet.specs.Record.{Record, held-seconds, withTimes, sheetOf}
-use Rattle.sheet.specs.Sound.{ClassReady, recordOf}
+use Rattle.sheet.specs.Sound.{recordOf}
 use Rattle.sheet.specs.declared.Sheet.{Sheet}
 use Rattle.sheet.specs.declared.Value.{Value}
-use Rattle.listing.specs.Listing.{Searched, Listed}
 use Rattle.listing.proofs.Finds.{class-small}
 use Rattle.stored.specs.Fields.{Outcome, good, refused}
 use Rattle.stored.specs.Answers.{readOf, Writes}
@@ -43,6 +42,7 @@ use Rattle.demands.specs.Demand2.{Lines}
 use Rattle.demands.specs.Pla.{DrawnFrom, GivesBack, WrittenAs, DrawnIn, WrittenIn, Pla}
 use Rattle.demands.proofs.Demand1.{demand-1}
 use Rattle.demands.proofs.Demand2.{class-lines}
+use Rattle.demands.proofs.Sevens.{SevenIf, as-listed}
 use Rattle.demands.proofs.Demand3.{kept-afresh, good-drawn, pla-drawn}
 
 -- what is read
@@ -143,28 +143,10 @@ entry-written : {t out later : List ℕ} {r : Reply} → Lends (WritesPla mostMa
 entry-written (Lends.unread u) z = absurd (u .bad (sym (ap (λ (x : Reply). x .answer) (u .reply)) ∙ z))
 entry-written (Lends.lent {s = s} h w) z = record { sheet = s; held-in = h; written = written w z }
 
--- 7 is for a class table that is not sound
-
-abbrev SevenIf : Sheet → ℕ → Type 0
-SevenIf s n = (n ≡ 7 → ClassReady mostMarks s → ⊥) × ((ClassReady mostMarks s → ⊥) → n ≡ 7)
-
 written-seven : {s : Sheet} {out later : List ℕ} {v : Value} → WritesPla mostMarks s out v later → SevenIf s (v .number)
 written-seven (WritesPla.spoiled n) = (λ e. n, λ k. refl)
 written-seven (WritesPla.short w f l) = (λ e. absurd (omega arith), λ k. absurd (k w))
 written-seven (WritesPla.written w f l) = (λ e. absurd (omega arith), λ k. absurd (k w))
-
-listed-seven : {s : Sheet} {area later : List ℕ} {v : Value} → Listed mostMarks s area v later → SevenIf s (v .number)
-listed-seven (Listed.spoiled n) = (λ e. n, λ k. refl)
-listed-seven (Listed.short w l) = (λ e. absurd (omega arith), λ k. absurd (k w))
-listed-seven (Listed.searched w l (Searched.none n)) = (λ e. absurd (omega arith), λ k. absurd (k w))
-listed-seven (Listed.searched w l (Searched.given g)) = (λ e. absurd (omega arith), λ k. absurd (k w))
-
-seven : {s : Sheet} {out later area after : List ℕ} {v w : Value} → WritesPla mostMarks s out v later → Listed mostMarks s area w after
-    → (v .number ≡ 7 → w .number ≡ 7) × (w .number ≡ 7 → v .number ≡ 7)
-seven x y =
-    let p = written-seven x in
-    let q = listed-seven y in
-    (λ e. q .1 (p .0 e), λ e. p .1 (q .0 e))
 
 five-exactly : {s : Sheet} {out later l : List ℕ} {v : Value} → WritesPla mostMarks s out v later → (v .number ≡ 7 → ⊥) → Lines (s .marks) (recordOf s .class) l
     → Decides (eqb (v .number) 5) (length out < length (plaText (s .marks) l))
@@ -185,6 +167,6 @@ pla = record {
   refused = λ c. left (demand-1 .every-call (Made.vault-read-pla c));
   written = written;
   entry-written = entry-written;
-  seven = seven;
+  seven = λ x. as-listed (written-seven x);
   five = five-exactly;
 }

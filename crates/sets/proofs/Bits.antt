@@ -133,7 +133,7 @@ odd-step : (k u : ℕ) → 1 ≤ u % 2 → trailingZeros (suc k) u ≡ 0
 unfolding trailingZeros
 odd-step k u l = let e : u % 2 ≡ 1 = omega arith in ap (λ (r : ℕ). under r (trailingZeros k (u / 2))) e
 
-pub zeros-has : (k u : ℕ) → u < 2 ^ k → (u ≡ 0 → ⊥) → has u (trailingZeros k u) ≡ true
+zeros-has : (k u : ℕ) → u < 2 ^ k → (u ≡ 0 → ⊥) → has u (trailingZeros k u) ≡ true
 unfolding has
 zeros-has zero u h n = absurd (n (omega arith))
 zeros-has (suc k) u h n = below-or (u % 2) 1
@@ -155,11 +155,15 @@ module _ (m u : ℕ) (wide : u < 2 ^ 32) (small : u < 2 ^ (2 ^ m)) (some : u ≡
   zeros-lt = has-small m u small (trailingZeros 32 u) zeros-needed
 
 -- ---- what two sets share: nothing exactly if their `&` is 0
-pub shared : (a b : ℕ) → a < 2 ^ 32 → (bitAnd a b ≡ 0 → ⊥) → (c : ℕ) × (has a c ≡ true) × (has b c ≡ true)
-shared a b h n =
+pub lowest-shared : (a b : ℕ) → a < 2 ^ 32 → (bitAnd a b ≡ 0 → ⊥)
+    → (has a (trailingZeros 32 (bitAnd a b)) ≡ true) × (has b (trailingZeros 32 (bitAnd a b)) ≡ true)
+lowest-shared a b h n =
     let c = trailingZeros 32 (bitAnd a b) in
     let e : (has a c && has b c) ≡ true = sym (has-and c a b) ∙ zeros-has 32 (bitAnd a b) (omega (arith, and-le-l a b)) n in
-    (c, and-left (has a c) _ e, and-right (has a c) _ e)
+    (and-left (has a c) _ e, and-right (has a c) _ e)
+
+pub shared : (a b : ℕ) → a < 2 ^ 32 → (bitAnd a b ≡ 0 → ⊥) → (c : ℕ) × (has a c ≡ true) × (has b c ≡ true)
+shared a b h n = let x = lowest-shared a b h n in (trailingZeros 32 (bitAnd a b), x .0, x .1)
 
 pub not-shared : (a b c : ℕ) → bitAnd a b ≡ 0 → has a c ≡ true → has b c ≡ true → ⊥
 not-shared a b c z p q = clash (has-and c a b ∙ rw (p, q)) (ap (λ (x : ℕ). has x c) z ∙ has-zero c)

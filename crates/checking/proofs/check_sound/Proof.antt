@@ -19,7 +19,7 @@ class-bits-requires : tie.Need-class-bits-requires
 class-bits-requires c κs = (marks-most mostMarks _ (c .before .before .before .pre .marks), omega (arith, long (c .before .before .before)))
 
 judged-requires : tie.Need-judged-requires
-judged-requires c κs = (marks-most mostMarks _ (c .before .before .before .before .pre .marks), c .class-bits .ensures .0)
+judged-requires c κs = marks-most mostMarks _ (c .before .before .before .before .pre .marks)
 
 returns : tie.Need-returns
 returns c =

@@ -34,13 +34,13 @@ returns : tie.Need-returns
 returns c = no-box-at _ _ _ _ _ (c .before .no-box .ensures) (c .if1 .taken)
 
 united-requires : tie.Need-united-requires
-united-requires c κs = (c .before .before .before .before .before .pre .0, c .before .sets .ensures _ (c .before .before .before .before .before .pre .0), each-box _ _ _ _ (boxes (c .before .before)))
+united-requires c κs = (c .before .before .before .before .before .pre, c .before .sets .ensures _ (c .before .before .before .before .before .pre), each-box _ _ _ _ (boxes (c .before .before)))
 
 returns-2 : tie.Need-returns-2
 returns-2 c = overlap-at _ _ _ _ (boxes (c .before .before .before .before .before)) _ (c .before .before .united .ensures .first) (c .if2 .taken)
 
 leaving-requires : tie.Need-leaving-requires
-leaving-requires c κs = (c .before .before .before .before .before .before .before .before .before .pre .0, c .before .before .before .before .before .sets .ensures _ (c .before .before .before .before .before .before .before .before .before .pre .0), each-box _ _ _ _ (boxes (c .before .before .before .before .before .before)))
+leaving-requires c κs = (c .before .before .before .before .before .before .before .before .before .pre, c .before .before .before .before .before .sets .ensures _ (c .before .before .before .before .before .before .before .before .before .pre), each-box _ _ _ _ (boxes (c .before .before .before .before .before .before)))
 
 returns-3 : tie.Need-returns-3
 returns-3 c = leaves-at _ _ _ _ (apart (c .before .before .before)) _ (c .before .leaving .ensures) (c .if3 .taken)
