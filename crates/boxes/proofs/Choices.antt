@@ -1,22 +1,26 @@
 -- The boxes that contain a combination c are those through c, one for each set t of free marks below 2^m, and their numbers rise with t.
 -- Each law is an induction on the marks; digits are written with max and / so that omega sees through them.
-use Prim.Native.Nat.{ℕ, zero, suc, _+_, _*_, _-_, _/_, _%_, _^_, _<_, _≤_, max}
+use Prim.Native.Nat.{ℕ, zero, suc, _+_, _*_, _/_, _%_, _^_, _<_, _≤_, max}
 use mathlib.Core.Bool.{Bool, true, _&&_}
 use mathlib.Core.Path.{_≡_, refl, sym, _∙_, ap, ap₂}
-use native.Mathlib.Nat.{pow-suc, div-one, div-add-mod'}
-use native.Mathlib.Numerals.{add-one}
+use native.Mathlib.Nat.{pow-suc, div-add-mod'}
 use native.Mathlib.Decide.{le-ind}
 use native.Mathlib.Omega.{arith}
 use lib.Dec.{eqb, lit<}
 use lib.Bits.{bitOr, or-step}
 use lib.Count.{ones, ones-step}
-use lib.Pow.{pow-mono, shr-shr}
+use lib.Pow.{pow-mono}
 use borrow.Author.Tests.{eq-eqb, ne-eqb, eqb-true}
-use Rattle.boxes.specs.Boxes.{agrees, contains, sumIn, freeMarks, freeCount, lowest, through, single}
+use Rattle.boxes.specs.Boxes.{agrees, contains, sumIn, freeCount, lowest, through, single}
 use Rattle.boxes.specs.Sums.{only}
 use Rattle.ground.proofs.Cases.{below-or, same-or, mark, digit, and-left, and-right, eqb-pair}
 use Rattle.boxes.proofs.Sums.{sum-change, sum-zero}
 use Rattle.boxes.proofs.Numbers.{boxes-mono}
+
+-- the free marks of b, as a set of marks: mark i is in it exactly if digit i is 2
+unfoldable pub freeMarks : ℕ → ℕ → ℕ
+freeMarks zero b = 0
+freeMarks (suc m) b = freeMarks m (b / 3) * 2 + b % 3 / 2
 
 -- digits and the rest of a box through c
 
@@ -144,28 +148,6 @@ sumIn-single m c f l =
     (λ x lx n. at x ∙ ap (λ (t : Bool). only t (f x)) (ne-eqb c x (λ (w : c ≡ x). n (sym w))))
     (at c ∙ rw (eq-eqb c c refl) (omega arith))
     ∙ omega (arith, sum-zero (2 ^ m))
-
--- the box of a single combination is made of its marks, highest mark first: i of them make the box of c / 2^(m - i)
-
-pub single-none : (m c : ℕ) → 0 ≡ single 0 (c / 2 ^ (m - 0))
-unfolding through
-single-none m c = refl
-
-pub single-put : (m c i b : ℕ) → i < m → b ≡ single i (c / 2 ^ (m - i)) → b * 3 + c / 2 ^ (m - 1 - i) % 2 ≡ single (i + 1) (c / 2 ^ (m - (i + 1)))
-unfolding through
-single-put m c i b l e =
-    let k : m - 1 - i ≡ m - (i + 1) = omega arith in
-    let n : m - (i + 1) + 1 ≡ m - i = omega arith in
-    let x = c / 2 ^ (m - (i + 1)) in
-    let h : x / 2 ≡ c / 2 ^ (m - i) = shr-shr c (m - (i + 1)) 1 ∙ ap (λ (j : ℕ). c / 2 ^ j) n in
-    let v : c / 2 ^ (m - 1 - i) % 2 ≡ x % 2 = ap (λ (j : ℕ). c / 2 ^ j % 2) k in
-    let s : single (i + 1) x ≡ single i (x / 2) * 3 + x % 2 = ap (λ (j : ℕ). single j x) (add-one i) ∙ omega arith in
-    omega (arith, ap (single i) h)
-
-pub single-done : (m c b : ℕ) → b ≡ single m (c / 2 ^ (m - m)) → b ≡ single m c
-single-done m c b e =
-    let z : m - m ≡ 0 = omega arith in
-    e ∙ ap (single m) (ap (λ (j : ℕ). c / 2 ^ j) z ∙ div-one c)
 
 -- the lowest combination of a box is in it, and below all others in it
 

@@ -5,3 +5,4 @@ pub mod Masks
 pub mod Numbers
 pub mod Highest
 pub mod Count
+pub mod Looked

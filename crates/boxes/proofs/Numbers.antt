@@ -1,23 +1,13 @@
--- A number built digit by digit to the base B, low digit first. What remains to be put, K, has K′ above its lowest digit v:
--- the whole number T stays the one that was begun.
+-- Powers: one more, a digit in front of a number below one, and that those of 3 rise.
 use Prim.Native.Nat.{ℕ, _+_, _*_, _^_, _<_, _≤_}
-use mathlib.Core.Path.{_≡_, sym, _∙_, ap}
-use native.Mathlib.Nat.{pow-suc, add-mul, mul-assoc, mul-comm, mul-le-mul-right, pow-le-pow-right, zero-mul}
+use mathlib.Core.Path.{_≡_, _∙_, ap}
+use native.Mathlib.Nat.{pow-suc, add-mul, mul-comm, mul-le-mul-right, pow-le-pow-right}
 use native.Mathlib.Numerals.{add-one}
 use native.Mathlib.Omega.{arith}
 use lib.Dec.{lit<}
 
 pub power-next : (B i : ℕ) → B ^ (i + 1) ≡ B ^ i * B
 power-next B i = ap (λ (n : ℕ). B ^ n) (add-one i) ∙ pow-suc B i
-
-pub digit-put : (B i T K K′ v x y : ℕ) → K ≡ K′ * B + v → T ≡ K * B ^ i + x → y ≡ v * B ^ i + x → T ≡ K′ * B ^ (i + 1) + y
-digit-put B i T K K′ v x y k e put =
-    let a : K * B ^ i ≡ (K′ * B + v) * B ^ i = ap (λ (n : ℕ). n * B ^ i) k in
-    let b : K′ * B * B ^ i ≡ K′ * B ^ (i + 1) = mul-assoc K′ B (B ^ i) ∙ ap (λ (n : ℕ). K′ * n) (mul-comm B (B ^ i) ∙ sym (power-next B i)) in
-    omega (arith, add-mul (K′ * B) v (B ^ i))
-
-pub digits-done : (B i T K x : ℕ) → K ≡ 0 → T ≡ K * B ^ i + x → x ≡ T
-digits-done B i T K x k e = omega (arith, ap (λ (n : ℕ). n * B ^ i) k, zero-mul (B ^ i))
 
 pub digit-lt : (B i v x : ℕ) → v < B → x < B ^ i → v * B ^ i + x < B ^ (i + 1)
 digit-lt B i v x lv lx =

@@ -19,11 +19,6 @@ contains (suc m) b c = agrees (b % 3) (c % 2) && contains m (b / 3) (c / 2)
 unfoldable pub sumIn : ℕ → ℕ → (ℕ → ℕ) → ℕ
 sumIn m b f = sum (2 ^ m) (λ c. only (contains m b c) (f c))
 
--- the free marks of b, as a set of marks: mark i is in it exactly if digit i is 2
-unfoldable pub freeMarks : ℕ → ℕ → ℕ
-freeMarks zero b = 0
-freeMarks (suc m) b = freeMarks m (b / 3) * 2 + b % 3 / 2
-
 -- how many marks of b are free
 unfoldable pub freeCount : ℕ → ℕ → ℕ
 freeCount zero b = 0

@@ -1,9 +1,22 @@
--- What the functions on boxes tell each other.
-use Prim.Native.Nat.{ℕ, _/_, _%_, _^_, _<_}
+-- What the functions on boxes tell each other: boxes taken apart.
+use Prim.Native.Nat.{ℕ, _+_, _*_, _-_, _^_, _<_, _≤_}
 use mathlib.Core.Path.{_≡_}
-use Rattle.boxes.specs.Boxes.{freeMarks}
+use mathlib.Core.Bool.{Bool}
+use lib.Dec.{eqb}
+use lib.Bits.{bitAnd}
+use Rattle.boxes.specs.Boxes.{contains}
+use Rattle.boxes.specs.declared.Digits.{Digits}
 
--- a free mark of b, told by its power of 3, where b has one: b without that power once is b with the mark on, and without it twice b with the mark off
-pub data FreePower (m b : ℕ) : ℕ → Type 0 where
-  none : freeMarks m b ≡ 0 → FreePower m b 0
-  at : (i : ℕ) → i < m → b / 3 ^ i % 3 ≡ 2 → FreePower m b (3 ^ i)
+-- d is how often p goes into x, twice at most
+pub record Digit (x p d : ℕ) : Type 0 where
+  pub few : d < 3
+  pub goes : d * p ≤ x
+  pub ends : x < p * 3 → x < d * p + p
+
+-- c has the marks `on`, the marks `free` aside: c & !free == on
+abbrev pub masked : ℕ → ℕ → ℕ → Bool
+masked free on c = eqb (bitAnd c ((2 ^ 64 - 1) - free)) on
+
+-- the masks decide, for every number c, whether b contains it
+abbrev pub Apart : ℕ → ℕ → Digits → Type 0
+Apart m b d = (c : ℕ) → c < 2 ^ 64 → masked (d .free) (d .on) c ≡ contains m b c

@@ -1,10 +1,8 @@
 // Combinations and boxes as masks: a set of marks is a number with a bit for each mark.
 ghost use mathlib.Core.Path.{_≡_};
-ghost use Prim.Native.Nat.{_+_, _*_, _-_, _/_, _%_, _^_, _<_, _≤_};
-ghost use lib.Dec.{eqb};
-ghost use lib.Bits.{bitAnd};
-ghost use Rattle.boxes.specs.Boxes.{contains, freeMarks, lowest, through, single};
-ghost use Rattle.boxes.specs.Parts.{FreePower};
+ghost use Prim.Native.Nat.{_+_, _*_, _^_, _<_, _≤_};
+ghost use Rattle.boxes.specs.Boxes.{contains, through, single};
+ghost use Rattle.boxes.specs.Parts.{Digit, masked, Apart};
 
 // The number of combinations of m marks.
 pub fn power2(m: usize) -> usize
@@ -14,19 +12,19 @@ pub fn power2(m: usize) -> usize
     1 << m
 }
 
+// The powers of 3 that count boxes.
+const POWERS: [u16; 9] = [1, 3, 9, 27, 81, 243, 729, 2187, 6561];
+
 // The number of boxes over m marks.
 pub fn power3(m: usize) -> usize
     requires { ⌜ m ≤ 8 ⌝ }
     ensures { λ r. ⌜ (r ≡ 3 ^ m) × (r ≤ 6561) ⌝ }
 {
-    let mut p: usize = 1;
-    for i in 0..m {
-        p = p * 3;
-    }
-    p
+    POWERS[m] as usize
 }
 
-// A box taken apart: its free marks, and the marks that it wants on. The latter are its lowest combination.
+// A box taken apart, for tests: its free marks, and the marks that it wants on, which are its lowest combination. A number that is no box wants a mark
+// on that it has free, so that nothing agrees with it.
 pub struct Digits {
     pub free: usize,
     pub on: usize,
@@ -40,26 +38,43 @@ pub fn with_mark(x: usize, i: usize, v: usize) -> usize
     x | (v << i)
 }
 
-// Takes the digits of the box b apart.
+// The digit at a mark, p being its power of 3 and x what remains of the box from this mark down: whether p goes into x twice, once or not.
+fn digit(x: usize, p: usize) -> usize
+    ensures { λ r. ⌜ Digit x p r ⌝ }
+{
+    if x < p {
+        return 0;
+    }
+    if x - p < p {
+        return 1;
+    }
+    2
+}
+
+// Takes the box b apart, highest mark first: once for all the combinations that it is tested with.
 pub fn digits_of(m: usize, b: usize) -> Digits
     requires { ⌜ m ≤ 8 ⌝ }
-    ensures { λ r. ⌜ (r .free ≡ freeMarks m b) × (r .on ≡ lowest m b) ⌝ }
+    ensures { λ r. ⌜ Apart m b r ⌝ }
 {
     let mut free: usize = 0;
     let mut on: usize = 0;
     let mut rest = b;
     for i in 0..m {
-        let d = rest % 3;
-        rest = rest / 3;
-        free = with_mark(free, i, d / 2);
-        on = with_mark(on, i, d % 2);
+        let p = power3(m - 1 - i);
+        let d = digit(rest, p);
+        rest = rest - d * p;
+        free = free * 2 + d / 2;
+        on = on * 2 + d % 2;
+    }
+    if rest != 0 {
+        return Digits { free: 1, on: 1 };
     }
     Digits { free, on }
 }
 
 // Whether c has the marks that the digits want, free ones aside. Marks above the box's own count: a box wants them off.
 pub fn agrees(d: Digits, c: usize) -> bool
-    ensures { λ r. ⌜ r ≡ eqb (bitAnd c ((2 ^ 64 - 1) - d .free)) (d .on) ⌝ }
+    ensures { λ r. ⌜ r ≡ masked (d .free) (d .on) c ⌝ }
 {
     c & !d.free == d.on
 }
@@ -69,31 +84,19 @@ pub fn contains(m: usize, b: usize, c: usize) -> bool
     requires { ⌜ m ≤ 8 ⌝ }
     ensures { λ r. ⌜ r ≡ contains m b c ⌝ }
 {
-    if power3(m) <= b {
-        return false;
-    }
     agrees(digits_of(m, b), c)
 }
 
-// Mark i of the combination c: 1 if it is on.
-pub fn mark(c: usize, i: usize) -> usize
-    requires { ⌜ i < 64 ⌝ }
-    ensures { λ r. ⌜ (r ≡ c / 2 ^ i % 2) × (r < 2) ⌝ }
-{
-    (c >> i) & 1
-}
+// The boxes of the single combinations of four marks.
+const FOURS: [u8; 16] = [0, 1, 3, 4, 9, 10, 12, 13, 27, 28, 30, 31, 36, 37, 39, 40];
 
-// The box of the single combination c: its marks as digits, highest mark first.
+// The box of the single combination c: its marks as digits, four of them looked up at a time.
 pub fn single(m: usize, c: usize) -> usize
     requires { ⌜ m ≤ 8 ⌝ }
     ensures { λ r. ⌜ (r ≡ single m c) × (r < 3 ^ m) ⌝ }
 {
-    let mut b: usize = 0;
-    for i in 0..m {
-        let k = m - 1 - i;
-        b = b * 3 + mark(c, k);
-    }
-    b
+    let marks = c & (power2(m) - 1);
+    FOURS[marks % 16] as usize + FOURS[marks / 16] as usize * 81
 }
 
 // The box through the combination c with the free marks t. Digit i is 1 + 1 at a mark of t, and mark i of c elsewhere.
@@ -102,21 +105,4 @@ pub fn through(m: usize, c: usize, t: usize) -> usize
     ensures { λ r. ⌜ (r ≡ through m c t) × (r < 3 ^ m) ⌝ }
 {
     single(m, c | t) + single(m, t)
-}
-
-// The power of 3 of the lowest free mark of the box b, and 0 where no mark is free.
-pub fn free_power(m: usize, b: usize) -> usize
-    requires { ⌜ m ≤ 8 ⌝ }
-    ensures { λ r. ⌜ FreePower m b r ⌝ }
-{
-    let mut p: usize = 1;
-    let mut rest = b;
-    for i in 0..m {
-        if rest % 3 == 2 {
-            return p;
-        }
-        rest = rest / 3;
-        p = p * 3;
-    }
-    0
 }

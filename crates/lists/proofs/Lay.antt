@@ -8,9 +8,9 @@ use Prim.Native.Nat.{ℕ, _+_, _^_, _<_, _≤_, zero-le}
 use native.Mathlib.Nat.{not-suc-le-zero}
 use native.Mathlib.Omega.{arith}
 use lib.ListN.{length}
-use Rattle.boxes.specs.Boxes.{contains, through, freeMarks}
+use Rattle.boxes.specs.Boxes.{contains, through}
 use Rattle.ground.proofs.Cases.{below-or}
-use Rattle.boxes.proofs.Choices.{through-lt, through-rises, through-contains, through-free, freeMarks-lt}
+use Rattle.boxes.proofs.Choices.{through-lt, through-rises, through-contains, through-free, freeMarks, freeMarks-lt}
 use Rattle.lists.specs.Lists.{covered, Fits, lowestOf, Rising, Smaller, Before, FirstShortest, AtLeast, Small}
 use Rattle.lists.proofs.Fit.{less, Inside, lowest-true, lowest-le, fits-tail, fits-cons, fits-head, fits-none, fronted}
 use Rattle.lists.proofs.Order.{away-rest, rising-tail, rising-cons, head-has}

@@ -1,4 +1,4 @@
--- The two tables hold what they should: one test of each, computed over all entries at five marks; over fewer marks a box is the same.
+-- The table of sets holds what it should: one test, computed over all entries at five marks; over fewer marks a box is the same.
 use mathlib.Core.Path.{_≡_, refl, sym, _∙_}
 use mathlib.Core.Bool.{Bool, true, false, Bool·beq, _&&_, false≢true}
 use mathlib.Core.List.{List, [], _∷_}
@@ -39,12 +39,6 @@ sets =
     84215045 ∷ 168430090 ∷ 252645135 ∷ 269488144 ∷ 538976288 ∷ 808464432 ∷ 1077952576 ∷ 2155905152 ∷ 3233857728 ∷ 1347440720 ∷ 2694881440 ∷
     4042322160 ∷ 286331153 ∷ 572662306 ∷ 858993459 ∷ 1145324612 ∷ 2290649224 ∷ 3435973836 ∷ 1431655765 ∷ 2863311530 ∷ 4294967295 ∷ []
 
-abbrev pub singles : List ℕ
-singles =
-    0 ∷ 1 ∷ 3 ∷ 4 ∷ 9 ∷ 10 ∷ 12 ∷ 13 ∷ 27 ∷ 28 ∷ 30 ∷ 31 ∷ 36 ∷ 37 ∷ 39 ∷ 40 ∷ 81 ∷ 82 ∷ 84 ∷ 85 ∷ 90 ∷ 91 ∷ 93 ∷ 94 ∷ 108 ∷ 109 ∷ 111 ∷
-    112 ∷ 117 ∷ 118 ∷ 120 ∷ 121 ∷ []
-
--- ---- the sets of the boxes
 set-right : ℕ → ℕ → Bool
 set-right b s = ltb s (2 ^ 32) && every (2 ^ setMarks) (λ c. Bool·beq (has s c) (contains setMarks b c))
 
@@ -71,18 +65,3 @@ sets-hold m h b l =
           (λ q. has-high 32 c s lt q ∙ sym (if (contains setMarks b c) (λ t. absurd (omega (arith, contains-combination setMarks b c t))) (λ t. t)))
           ∙ contains-wide m setMarks b c h l,
     )
-
--- ---- the boxes of the single combinations
-single-right : ℕ → ℕ → Bool
-single-right c x = eqb x (single setMarks c)
-
-singles-computed : every (2 ^ setMarks) (λ c. single-right c (getD singles c 0)) ≡ true
-unfolding every single-right through
-singles-computed = refl
-
-pub singles-hold : (m : ℕ) → m ≤ setMarks → Singles m singles
-unfolding single-right
-singles-hold m h c l =
-    let p : 2 ^ m ≤ 2 ^ setMarks = pow-mono h in
-    eqb-true (getD singles c 0) (single setMarks c) (every-at (2 ^ setMarks) (λ d. single-right d (getD singles d 0)) c singles-computed (omega arith))
-    ∙ through-wide m setMarks c 0 h l (omega arith)

@@ -12,7 +12,11 @@ pub fn sets() -> [u32; 243]
 pub fn singles() -> [usize; 32]
     ensures { λ r. ⌜ AllSingles r ⌝ }
 {
-    SINGLES
+    let mut singles = [0usize; 32];
+    for c in 0..32 {
+        singles[c] = boxes::single(5, c);
+    }
+    singles
 }
 
 // What each combination adds to the outside counts of a class: 0 where the class has it, and else 1.
@@ -271,40 +275,4 @@ const SETS: [u32; 243] = [
     1431655765,
     2863311530,
     4294967295,
-];
-
-// The marks of each combination as the digits of a box: the box of that single combination.
-const SINGLES: [usize; 32] = [
-    0,
-    1,
-    3,
-    4,
-    9,
-    10,
-    12,
-    13,
-    27,
-    28,
-    30,
-    31,
-    36,
-    37,
-    39,
-    40,
-    81,
-    82,
-    84,
-    85,
-    90,
-    91,
-    93,
-    94,
-    108,
-    109,
-    111,
-    112,
-    117,
-    118,
-    120,
-    121,
 ];

@@ -9,8 +9,8 @@ use lib.Count.{ones-le}
 use lib.Dec.{eqb, leb}
 use borrow.Author.Tests.{le-leb, lt-leb, le-ltb, lt-ltb, leb-true}
 use Rattle.ground.proofs.Cases.{if, below-or, and-left, and-right}
-use Rattle.boxes.specs.Boxes.{contains, freeCount, freeMarks}
-use Rattle.boxes.proofs.Choices.{freeMarks-lt, freeCount-ones}
+use Rattle.boxes.specs.Boxes.{contains, freeCount}
+use Rattle.boxes.proofs.Choices.{freeMarks, freeMarks-lt, freeCount-ones}
 use Rattle.tables.specs.Tables.{entry, own, fitsShifted, touched}
 use Rattle.tables.specs.Parts.{Bears, AllBear, fitsMoved}
 use Rattle.tables.proofs.Touched.{touched-at}

@@ -6,9 +6,9 @@ use mathlib.Core.List.{List}
 use native.Mathlib.Omega.{arith}
 use lib.ListN.{length, set, length-set}
 use lib.Seq.{getD-set-same, getD-set-other}
-use Rattle.boxes.specs.Boxes.{contains, freeMarks, through}
+use Rattle.boxes.specs.Boxes.{contains, through}
 use Rattle.ground.proofs.Cases.{if, clash, below-or, same-or}
-use Rattle.boxes.proofs.Choices.{through-lt, through-contains, through-free, freeMarks-through, freeMarks-lt}
+use Rattle.boxes.proofs.Choices.{through-lt, through-contains, through-free, freeMarks-through, freeMarks, freeMarks-lt}
 use Rattle.tables.specs.declared.Shift.{Shift}
 use Rattle.tables.specs.Tables.{entry, shifted, moved}
 use Rattle.tables.proofs.Entries.{tab-of}

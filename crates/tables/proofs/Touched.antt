@@ -4,11 +4,11 @@ use mathlib.Core.Bool.{Bool, true, false, not, _||_}
 use mathlib.Core.Path.{_≡_, sym, _∙_, ap, ap₂}
 use mathlib.Core.List.{List}
 use lib.Count.{ones}
-use Rattle.boxes.specs.Boxes.{contains, freeMarks, through}
+use Rattle.boxes.specs.Boxes.{contains, through}
 use Rattle.ground.proofs.Every.{every-yes, every-at, every-no}
 use Rattle.ground.proofs.Cases.{if, clash}
 use Rattle.boxes.proofs.Boxes.{contains-box}
-use Rattle.boxes.proofs.Choices.{through-lt, through-contains, through-free, freeMarks-lt, freeCount-through}
+use Rattle.boxes.proofs.Choices.{through-lt, through-contains, through-free, freeMarks, freeMarks-lt, freeCount-through}
 use Rattle.tables.specs.declared.Shift.{Shift}
 use Rattle.tables.specs.Tables.{entry, fitsShifted, touched}
 use Rattle.tables.specs.Parts.{fitsMoved}

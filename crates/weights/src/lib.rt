@@ -30,12 +30,25 @@ struct Best {
     gain: f64,
 }
 
+// Over one mark more, with the power p, a box has the lowest free mark of the box below it, and that mark where it alone is free.
+fn with_mark(lows: &mut [usize; 243], p: usize)
+    requires { ⌜ p ≤ 81 ⌝ }
+{
+    for b in 0..p {
+        let low = lows[b];
+        lows[p + b] = low;
+        lows[p * 2 + b] = if low == 0 { p } else { low };
+    }
+}
+
 // For each box the power of 3 of its lowest free mark, 0 where it has none.
 fn lows() -> [usize; 243] {
     let mut lows = [0usize; 243];
-    for b in 0..243 {
-        lows[b] = boxes::free_power(5, b);
-    }
+    with_mark(&mut lows, 1);
+    with_mark(&mut lows, 3);
+    with_mark(&mut lows, 9);
+    with_mark(&mut lows, 27);
+    with_mark(&mut lows, 81);
     lows
 }
 

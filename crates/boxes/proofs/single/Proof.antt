@@ -1,50 +1,66 @@
--- After i turns b is the box of the i highest marks.
-use Prim.Native.Nat.{ℕ, _+_, _*_, _-_, _/_, _^_, _≤_, _<_}
+-- The marks that count are looked up, four at a time.
+use Prim.Native.Nat.{ℕ, _-_, _/_, _%_, _^_, _≤_, _<_}
 use mathlib.Core.Path.{_≡_, sym, _∙_, ap, subst}
 use native.Mathlib.Omega.{arith}
-use native.Mathlib.Nat.{pow-le-pow-right}
+use native.Mathlib.Nat.{mod-lt}
+use lib.ListN.{getD}
+use lib.Bits.{bitAnd, and-mask}
+use lib.Pow.{pow-pos, pow-mono}
 use borrow.Author.Needs.{needs}
-use Rattle.boxes.proofs.Choices.{through-lt, single-none, single-put, single-done}
-use Rattle.boxes.specs.Boxes.{single}
+use Rattle.boxes.proofs.Looked.{fours, fours-few, looked, single-at, single-low}
+use Rattle.boxes.proofs.Choices.{through-lt}
 use Rattle.boxes.proofs.single.Statement.{statement}
 use Rattle.boxes.proofs.single.Tie as tie
 
-abbrev Inv-loop : tie.InvT-loop
-Inv-loop m c b₀ i₀ b i = (i ≤ m) × (b ≡ single i (c / 2 ^ (m - i)))
+-- they are c % 2^m
+marks-below : (m c r : ℕ) → m ≤ 8 → r ≡ 2 ^ m → (bitAnd c (r - 1) ≡ c % 2 ^ m) × (c % 2 ^ m < 2 ^ m) × (2 ^ m ≤ 256)
+marks-below m c r h e = (ap (λ (n : ℕ). bitAnd c (n - 1)) e ∙ and-mask c m, mod-lt c (pow-pos m), pow-mono {i = m} {j = 8} h)
 
-abbrev μ-loop : tie.MeasureT-loop
-μ-loop m c b₀ i₀ b i = m - i
+sub-marks : tie.Need-sub-marks
+sub-marks c = omega (arith, c .power2 .ensures .0, pow-pos (c .before .args .m))
 
--- b stays below 3^i, so far below 2^64
-small : (c : tie.In-loop Inv-loop μ-loop) → c .before .loop .b < 6561
-small c =
-    let l = c .before .loop in
-    let p = pow-le-pow-right {n = 3} (omega arith) {i = l .i} {j = 8} (omega arith) in
-    omega (arith, l .inv .1, through-lt (l .i) (c .before .before .args .c / 2 ^ (c .before .before .args .m - l .i)) 0)
+-- what is looked up is small
+low : (x : ℕ) → getD fours (x % 16) 0 ≤ 40
+low x = fours-few (x % 16) (omega arith)
 
-loop-holds : tie.Need-loop-holds Inv-loop μ-loop
-loop-holds c = (omega arith, single-none _ _)
+high : (m c r : ℕ) → m ≤ 8 → r ≡ 2 ^ m → (bitAnd c (r - 1) / 16 < 16) × (getD fours (bitAnd c (r - 1) / 16) 0 ≤ 40)
+high m c r h e =
+    let k = marks-below m c r h e in
+    let l : bitAnd c (r - 1) / 16 < 16 = omega (arith, k .0, k .1, k .2) in
+    (l, fours-few _ l)
 
-mul-b : tie.Need-mul-b Inv-loop μ-loop
-mul-b c = omega (arith, small c)
+cast-result : tie.Need-cast-result
+cast-result c = omega (arith, low (bitAnd (c .before .args .c) (c .power2 .result - 1)))
 
-add-b : tie.Need-add-b Inv-loop μ-loop
-add-b c = omega (arith, small (c .before))
+array-read-result-2 : tie.Need-array-read-result-2
+array-read-result-2 c = high (c .before .args .m) (c .before .args .c) (c .power2 .result) (search needs) (c .power2 .ensures .0) .0
 
-loop-again : tie.Need-loop-again Inv-loop μ-loop
-loop-again c =
-    let l = c .before .before .loop in
-    (omega arith, ap (λ (v : ℕ). l .b * 3 + v) (c .mark .ensures .0) ∙ single-put _ _ _ _ (c .before .loop-test .taken) (l .inv .1))
+cast-result-2 : tie.Need-cast-result-2
+cast-result-2 c = omega (arith, high (c .before .args .m) (c .before .args .c) (c .power2 .result) (search needs) (c .power2 .ensures .0) .1)
 
-returns : tie.Need-returns Inv-loop μ-loop
+mul-result : tie.Need-mul-result
+mul-result c = omega (arith, high (c .before .args .m) (c .before .args .c) (c .power2 .result) (search needs) (c .power2 .ensures .0) .1)
+
+add-result : tie.Need-add-result
+add-result c = omega (arith, low (bitAnd (c .before .args .c) (c .power2 .result - 1)), high (c .before .args .m) (c .before .args .c) (c .power2 .result) (search needs) (c .power2 .ensures .0) .1)
+
+returns : tie.Need-returns
 returns c =
-    let a = c .before .before .args in
-    let l = c .before .loop in
-    let e : l .i ≡ a .m = omega arith in
-    let b = single-done (a .m) (a .c) (l .b) (subst (λ (n : ℕ). l .b ≡ single n (a .c / 2 ^ (a .m - n))) e (l .inv .1)) in
-    (b, subst (λ (n : ℕ). n < 3 ^ a .m) (sym b) (through-lt (a .m) (a .c) 0))
+    let a = c .before .args in
+    let k = marks-below (a .m) (a .c) (c .power2 .result) (search needs) (c .power2 .ensures .0) in
+    let e = ap looked (k .0) ∙ single-at (a .m) (a .c % 2 ^ a .m) (search needs) (k .1) ∙ single-low (a .m) (a .c) in
+    (e, subst (λ (n : ℕ). n < 3 ^ a .m) (sym e) (through-lt (a .m) (a .c) 0))
 
 pub single-spec : {M : Type 1} → statement M
-single-spec = tie.close (tie.spec
-    Inv-loop μ-loop loop-holds (λ c. search needs) (λ c. search needs) mul-b (λ c κs. search needs) add-b
-    (λ c. search needs) (λ c. search needs) loop-again returns)
+single-spec =
+    tie.close
+    (tie.spec
+    (λ c κs. search needs)
+    sub-marks
+    (λ c. search needs)
+    cast-result
+    array-read-result-2
+    cast-result-2
+    mul-result
+    add-result
+    returns)
