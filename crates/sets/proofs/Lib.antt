@@ -1,2 +1,3 @@
 pub mod Bits
 pub mod Computed
+pub mod Filled
