@@ -3,6 +3,7 @@
 # make test       the tests outside the proofs (CALLS=400000 random calls from SEED=1)
 # make check      everything: the gate proves all from nothing, then the tests run on an archive made of what was just proved
 # make bench      the library's times beside plain C's and glpk's (MODULE=1: of its module compiled for the host, as is done on other processors)
+# make count      what single jobs inside the library cost, in instructions (where valgrind is installed) and in time; x86-64 only
 # make sanitize   the library and the C programs of tests/ and examples/ under AddressSanitizer, UBSan and valgrind (see tests/sanitize)
 # make install    library, headers, programs and manual pages, to PREFIX=/usr/local (DESTDIR=.. in front of it)
 # make uninstall  takes away what install put there
@@ -36,7 +37,7 @@ target/host/%.o target/asan/%.o: $(sources)
 native = $(if $(filter x86_64,$(MODULE)$(shell uname -m)),target/staticlib/lib$(1).a,target/host/$(1).o)
 
 # rt leaves a program as it is if nothing in it changed: touch says that it is not older than its sources.
-$(programs): target/bin/%: $(sources)
+$(programs) target/bin/rounds: target/bin/%: $(sources)
 	rt check $*
 	@touch $@
 
@@ -51,6 +52,9 @@ check:
 
 bench: $(call native,vault) $(call native,seek_c)
 	@bench/run $^
+
+count: target/bin/rounds
+	@bench/count $<
 
 sanitize: target/asan/vault.o $(call native,vault)
 	@tests/sanitize $^
@@ -76,7 +80,7 @@ clean:
 help:
 	@sed -n 's/^# \(make .*\)/\1/p' Makefile
 
-.PHONY: all sample test check bench sanitize install uninstall clean help
+.PHONY: all sample test check bench count sanitize install uninstall clean help
 
 # two runs of rt at once would be in each other's way
 .NOTPARALLEL:
