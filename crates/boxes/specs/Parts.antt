@@ -1,17 +1,11 @@
 -- What the functions on boxes tell each other: boxes taken apart.
-use Prim.Native.Nat.{ℕ, _+_, _*_, _-_, _^_, _<_, _≤_}
+use Prim.Native.Nat.{ℕ, _-_, _^_, _<_}
 use mathlib.Core.Path.{_≡_}
 use mathlib.Core.Bool.{Bool}
 use lib.Dec.{eqb}
 use lib.Bits.{bitAnd}
 use Rattle.boxes.specs.Boxes.{contains}
 use Rattle.boxes.specs.declared.Digits.{Digits}
-
--- d is how often p goes into x, twice at most
-pub record Digit (x p d : ℕ) : Type 0 where
-  pub few : d < 3
-  pub goes : d * p ≤ x
-  pub ends : x < p * 3 → x < d * p + p
 
 -- c has the marks `on`, the marks `free` aside: c & !free == on
 abbrev pub masked : ℕ → ℕ → ℕ → Bool

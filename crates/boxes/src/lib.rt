@@ -2,7 +2,7 @@
 ghost use mathlib.Core.Path.{_≡_};
 ghost use Prim.Native.Nat.{_+_, _*_, _^_, _<_, _≤_};
 ghost use Rattle.boxes.specs.Boxes.{contains, through, single};
-ghost use Rattle.boxes.specs.Parts.{Digit, masked, Apart};
+ghost use Rattle.boxes.specs.Parts.{masked, Apart};
 
 // The number of combinations of m marks.
 pub fn power2(m: usize) -> usize
@@ -38,38 +38,106 @@ pub fn with_mark(x: usize, i: usize, v: usize) -> usize
     x | (v << i)
 }
 
-// The digit at a mark, p being its power of 3 and x what remains of the box from this mark down: whether p goes into x twice, once or not.
-fn digit(x: usize, p: usize) -> usize
-    ensures { λ r. ⌜ Digit x p r ⌝ }
-{
-    if x < p {
-        return 0;
-    }
-    if x - p < p {
-        return 1;
-    }
-    2
-}
+// The free marks of each box over four marks, and 16 times those that it wants on.
+const MARKS: [u8; 81] = [
+    0,
+    16,
+    1,
+    32,
+    48,
+    33,
+    2,
+    18,
+    3,
+    64,
+    80,
+    65,
+    96,
+    112,
+    97,
+    66,
+    82,
+    67,
+    4,
+    20,
+    5,
+    36,
+    52,
+    37,
+    6,
+    22,
+    7,
+    128,
+    144,
+    129,
+    160,
+    176,
+    161,
+    130,
+    146,
+    131,
+    192,
+    208,
+    193,
+    224,
+    240,
+    225,
+    194,
+    210,
+    195,
+    132,
+    148,
+    133,
+    164,
+    180,
+    165,
+    134,
+    150,
+    135,
+    8,
+    24,
+    9,
+    40,
+    56,
+    41,
+    10,
+    26,
+    11,
+    72,
+    88,
+    73,
+    104,
+    120,
+    105,
+    74,
+    90,
+    75,
+    12,
+    28,
+    13,
+    44,
+    60,
+    45,
+    14,
+    30,
+    15,
+];
 
-// Takes the box b apart, highest mark first: once for all the combinations that it is tested with.
+// Takes the box b apart, four marks at a time: once for all the combinations that it is tested with.
 pub fn digits_of(m: usize, b: usize) -> Digits
     requires { ⌜ m ≤ 8 ⌝ }
     ensures { λ r. ⌜ Apart m b r ⌝ }
 {
-    let mut free: usize = 0;
-    let mut on: usize = 0;
-    let mut rest = b;
-    for i in 0..m {
-        let p = power3(m - 1 - i);
-        let d = digit(rest, p);
-        rest = rest - d * p;
-        free = free * 2 + d / 2;
-        on = on * 2 + d % 2;
-    }
-    if rest != 0 {
+    if power3(m) <= b {
         return Digits { free: 1, on: 1 };
     }
-    Digits { free, on }
+    let marks = MARKS;
+    let low = marks[b % 81] as usize;
+    let high = marks[b / 81] as usize;
+    Digits {
+        free: high % 16 * 16 + low % 16,
+        on: high / 16 * 16 + low / 16,
+    }
 }
 
 // Whether c has the marks that the digits want, free ones aside. Marks above the box's own count: a box wants them off.

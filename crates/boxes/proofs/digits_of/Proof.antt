@@ -1,63 +1,42 @@
--- Before each turn the digits of the highest marks are taken off, as masks, and the rest remains.
-use Prim.Native.Nat.{ℕ, _-_, _^_, _≤_, _<_}
-use mathlib.Core.Path.{sym, _∙_}
+-- Both masks are looked up, and decide; a number that is no box contains nothing.
+use Prim.Native.Nat.{ℕ, _/_, _%_, _^_, _<_}
+use mathlib.Core.Path.{sym, _∙_, ap₂}
 use native.Mathlib.Omega.{arith}
-use lib.Pow.{pow-mono}
 use borrow.Author.Needs.{needs}
-use Rattle.boxes.proofs.Masks.{Taken, taken-none, taken-more, taken-all, taken-over, masked-none}
+use Rattle.boxes.specs.Parts.{masked}
 use Rattle.boxes.proofs.Boxes.{contains-nothing}
-use Rattle.boxes.proofs.Numbers.{power-next}
+use Rattle.boxes.proofs.Looked.{free-at, on-at, marks-few}
+use Rattle.boxes.proofs.Masks.{contains-masked, masked-none}
 use Rattle.boxes.proofs.digits_of.Statement.{statement}
 use Rattle.boxes.proofs.digits_of.Tie as tie
 
-abbrev Inv-loop : tie.InvT-loop
-Inv-loop m b free₀ on₀ rest₀ i₀ free on rest i = (i ≤ m) × (free < 2 ^ i) × (on < 2 ^ i) × Taken m b i free on rest
+returns : tie.Need-returns
+returns c = λ x lx. masked-none x ∙ sym (contains-nothing _ _ _ (omega (arith, c .before .power3 .ensures .0, c .if1 .taken)))
 
-abbrev μ-loop : tie.MeasureT-loop
-μ-loop m b free₀ on₀ rest₀ i₀ free on rest i = m - i
+-- a box over at most eight marks has two parts of four
+halves : (c : tie.Else1) → c .before .before .args .b / 81 < 81
+halves c = omega (arith, c .before .power3 .ensures .1, c .if1 .left)
 
-loop-holds : tie.Need-loop-holds Inv-loop μ-loop
-loop-holds c = (omega arith, omega arith, omega arith, taken-none _ _)
+cast-low : tie.Need-cast-low
+cast-low c = omega (arith, marks-few (c .before .before .args .b % 81) (omega arith))
 
-mul-rest : tie.Need-mul-rest Inv-loop μ-loop
-mul-rest c = omega (arith, c .digit .ensures .goes)
+cast-high : tie.Need-cast-high
+cast-high c = omega (arith, marks-few (c .before .before .args .b / 81) (halves c))
 
-sub-rest : tie.Need-sub-rest Inv-loop μ-loop
-sub-rest c = c .digit .ensures .goes
+mul-t18 : tie.Need-mul-t18
+mul-t18 c = omega (arith, marks-few (c .before .before .args .b / 81) (halves c))
 
--- i marks are below 2^i, and i is at most 8
-few : (c : tie.After-digit Inv-loop μ-loop) → 2 ^ c .before .before .before .loop .i ≤ 256
-few c = pow-mono {i = c .before .before .before .loop .i} {j = 8} (omega arith)
+add-t20 : tie.Need-add-t20
+add-t20 c = omega (arith, marks-few (c .before .before .args .b % 81) (omega arith), marks-few (c .before .before .args .b / 81) (halves c))
 
-mul-free : tie.Need-mul-free Inv-loop μ-loop
-mul-free c = omega (arith, few c)
-
-add-free : tie.Need-add-free Inv-loop μ-loop
-add-free c = omega (arith, few c, c .digit .ensures .few)
-
-mul-on : tie.Need-mul-on Inv-loop μ-loop
-mul-on c = omega (arith, few c)
-
-add-on : tie.Need-add-on Inv-loop μ-loop
-add-on c = omega (arith, few c, c .digit .ensures .few)
-
-loop-again : tie.Need-loop-again Inv-loop μ-loop
-loop-again c =
-    let l = c .before .before .before .loop in
-    let n = power-next 2 (l .i) in (
-      omega arith,
-      omega (arith, c .digit .ensures .few),
-      omega (arith, c .digit .ensures .few),
-      taken-more (c .before .before .loop-test .taken) (c .before .power3 .ensures .0) (c .digit .ensures) (l .inv .3),
-    )
-
-returns : tie.Need-returns Inv-loop μ-loop
-returns c = λ x lx. masked-none x ∙ sym (contains-nothing _ _ _ (taken-over (c .before .loop-test .left) (c .if1 .taken) (c .before .before .loop .inv .3)))
-
-returns-2 : tie.Need-returns-2 Inv-loop μ-loop
-returns-2 c = taken-all (omega arith) (c .before .loop-test .left) (search needs) (c .if1 .left) (c .before .before .loop .inv .3)
+returns-2 : tie.Need-returns-2
+returns-2 c = λ x lx.
+    let a = c .before .before .args in
+    let l : a .b < 3 ^ a .m = omega (arith, c .before .power3 .ensures .0, c .if1 .left) in
+    ap₂ (λ (f o : ℕ). masked f o x) (free-at (a .m) (a .b) (search needs) l) (on-at (a .m) (a .b) (search needs) l)
+    ∙ contains-masked (a .m) 64 (a .b) x (omega arith) l lx
 
 pub digits-of-spec : {M : Type 1} → statement M
 digits-of-spec = tie.close (tie.spec
-    Inv-loop μ-loop loop-holds (λ c. search needs) (λ c. search needs) (λ c κs. search needs) (λ c κs. search needs)
-    mul-rest sub-rest mul-free add-free mul-on add-on (λ c. search needs) (λ c. search needs) loop-again returns returns-2)
+    (λ c κs. search needs) returns (λ c. search needs) cast-low (λ c. search needs) cast-high (λ c. search needs)
+    (λ c. search needs) mul-t18 add-t20 returns-2)

@@ -20,10 +20,10 @@ sub-marks : tie.Need-sub-marks
 sub-marks c = omega (arith, c .power2 .ensures .0, pow-pos (c .before .args .m))
 
 -- what is looked up is small
-low : (x : ℕ) → getD fours (x % 16) 0 ≤ 40
+low : (x : ℕ) → getD fours (x % 16) 0 ≤ 255
 low x = fours-few (x % 16) (omega arith)
 
-high : (m c r : ℕ) → m ≤ 8 → r ≡ 2 ^ m → (bitAnd c (r - 1) / 16 < 16) × (getD fours (bitAnd c (r - 1) / 16) 0 ≤ 40)
+high : (m c r : ℕ) → m ≤ 8 → r ≡ 2 ^ m → (bitAnd c (r - 1) / 16 < 16) × (getD fours (bitAnd c (r - 1) / 16) 0 ≤ 255)
 high m c r h e =
     let k = marks-below m c r h e in
     let l : bitAnd c (r - 1) / 16 < 16 = omega (arith, k .0, k .1, k .2) in
