@@ -1,9 +1,9 @@
 -- The boxes that contain a combination c are those through c, one for each set t of free marks below 2^m, and their numbers rise with t.
 -- Each law is an induction on the marks; digits are written with max and / so that omega sees through them.
-use Prim.Native.Nat.{ℕ, zero, suc, _+_, _*_, _/_, _%_, _^_, _<_, _≤_, max}
+use Prim.Native.Nat.{ℕ, zero, suc, _+_, _*_, _-_, _/_, _%_, _^_, _<_, _≤_, max}
 use mathlib.Core.Bool.{Bool, true, _&&_}
 use mathlib.Core.Path.{_≡_, refl, sym, _∙_, ap, ap₂}
-use native.Mathlib.Nat.{pow-suc, div-add-mod'}
+use native.Mathlib.Nat.{pow-suc, mul-comm, mul-assoc, div-one, div-div-eq-div-mul, div-add-mod'}
 use native.Mathlib.Decide.{le-ind}
 use native.Mathlib.Omega.{arith}
 use lib.Dec.{eqb, lit<}
@@ -187,6 +187,23 @@ through-or (suc m) c t =
     let h : bitOr c t / 2 ≡ bitOr (c / 2) (t / 2) = omega arith in
     let v : bitOr c t % 2 ≡ max (c % 2) (t % 2) = omega arith in
     rw (h, v, through-or m (c / 2) (t / 2)) (omega arith)
+
+-- one mark more free, above those that are: the digit there is 2 in place of c's own mark
+pub through-more : (m c i t : ℕ) → i < m → t < 2 ^ i → through m c (2 ^ i + t) ≡ through m c t + (2 - c / 2 ^ i % 2) * 3 ^ i
+unfolding through
+through-more zero c i t l h = absurd (omega arith)
+through-more (suc m) c zero t l h =
+    let e : t ≡ 0 = omega arith in
+    rw (e, div-one c) (omega arith)
+through-more (suc m) c (suc i) t l h =
+    let p = pow-suc 2 i in
+    let q : (2 ^ suc i + t) / 2 ≡ 2 ^ i + t / 2 = omega arith in
+    let v : (2 ^ suc i + t) % 2 ≡ t % 2 = omega arith in
+    let k : c / 2 / 2 ^ i ≡ c / 2 ^ suc i = div-div-eq-div-mul c 2 (2 ^ i) ∙ ap (λ (n : ℕ). c / n) (mul-comm 2 (2 ^ i) ∙ sym p) in
+    let w : (2 - c / 2 / 2 ^ i % 2) * 3 ^ i * 3 ≡ (2 - c / 2 ^ suc i % 2) * 3 ^ suc i =
+    ap (λ (n : ℕ). (2 - n % 2) * 3 ^ i * 3) k ∙ mul-assoc (2 - c / 2 ^ suc i % 2) (3 ^ i) 3 ∙ ap (λ (n : ℕ). (2 - c / 2 ^ suc i % 2) * n) (sym (pow-suc 3 i)) in
+    let r = through-more m (c / 2) i (t / 2) (omega arith) (omega arith) in
+    rw (q, v, r) (omega (arith, w))
 
 -- over more marks it is the same box
 

@@ -1,8 +1,9 @@
 // Combinations and boxes as masks: a set of marks is a number with a bit for each mark.
 ghost use mathlib.Core.Path.{_≡_};
-ghost use Prim.Native.Nat.{_+_, _*_, _^_, _<_, _≤_};
+ghost use Prim.Native.Nat.{_+_, _*_, _/_, _%_, _^_, _<_, _≤_};
+ghost use lib.ListN.{length};
 ghost use Rattle.boxes.specs.Boxes.{contains, through, single};
-ghost use Rattle.boxes.specs.Parts.{masked, Apart};
+ghost use Rattle.boxes.specs.Parts.{masked, Apart, Doubles, Doubled, AllThrough};
 
 // The number of combinations of m marks.
 pub fn power2(m: usize) -> usize
@@ -167,10 +168,49 @@ pub fn single(m: usize, c: usize) -> usize
     FOURS[marks % 16] as usize + FOURS[marks / 16] as usize * 81
 }
 
-// The box through the combination c with the free marks t. Digit i is 1 + 1 at a mark of t, and mark i of c elsewhere.
-pub fn through(m: usize, c: usize, t: usize) -> usize
+// Mark i of the combination c: 1 if it is on.
+fn mark(c: usize, i: usize) -> usize
+    requires { ⌜ i < 64 ⌝ }
+    ensures { λ r. ⌜ (r ≡ c / 2 ^ i % 2) × (r < 2) ⌝ }
+{
+    (c >> i) & 1
+}
+
+// Room for the boxes through a combination. Made in a function of its own, so that no proof meets its zeros.
+fn room() -> [u16; 256]
+    ensures { λ r. ⌜ 256 ≡ length r ⌝ }
+{
+    [0u16; 256]
+}
+
+// Behind the first n numbers the same again, each by so much more.
+fn double(xs: &mut [u16; 256], n: usize, more: u16)
+    requires { ⌜ Doubles n more (now xs) ⌝ }
+    ensures { λ r. ⌜ Doubled n more (now (xs .entry)) (now (xs .exit)) ⌝ }
+{
+    for t in 0..n {
+        xs[n + t] = xs[t] + more;
+    }
+}
+
+// The boxes that contain the combination c, by their free marks. One mark more can be free: each box that there was has its digit there raised to 2.
+pub fn all_through(m: usize, c: usize) -> [u16; 256]
     requires { ⌜ m ≤ 8 ⌝ }
+    ensures { λ r. ⌜ AllThrough m c r ⌝ }
+{
+    let mut all = room();
+    all[0] = single(m, c) as u16;
+    for i in 0..m {
+        let more = (2 - mark(c, i)) * power3(i);
+        double(&mut all, power2(i), more as u16);
+    }
+    all
+}
+
+// Of these boxes the one with the free marks t.
+pub fn through(m: usize, c: usize, all: &[u16; 256], t: usize) -> usize
+    requires { ⌜ (m ≤ 8) × AllThrough m c (now all) × (t < 2 ^ m) ⌝ }
     ensures { λ r. ⌜ (r ≡ through m c t) × (r < 3 ^ m) ⌝ }
 {
-    single(m, c | t) + single(m, t)
+    all[t] as usize
 }

@@ -61,9 +61,10 @@ pub fn move_at(m: usize, c: usize, by: Shift, t: &mut [u32])
     if by.is_none() {
         return;
     }
+    let all = boxes::all_through(m, c);
     let turns = boxes::power2(m);
     for k in 0..turns {
-        let b = boxes::through(m, c, k);
+        let b = boxes::through(m, c, &all, k);
         t[b] = by.of(t[b]);
     }
 }
@@ -74,9 +75,10 @@ pub fn fits_at(m: usize, c: usize, by: Shift, t: &[u32], most: u64, each: u64) -
     requires { ⌜ (most < 2 ^ 33) × (each ≤ 1) ⌝ }
     ensures { λ r. ⌜ r ≡ touched m c (fitsMoved m by (now (t .entry)) most each) ⌝ }
 {
+    let all = boxes::all_through(m, c);
     let n = boxes::power2(m);
     for k in 0..n {
-        let b = boxes::through(m, c, k);
+        let b = boxes::through(m, c, &all, k);
         let size = boxes::power2(usize::count_ones(k) as usize) as u64;
         if !by.fits(t[b], most + each * size) {
             return false;

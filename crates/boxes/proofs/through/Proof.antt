@@ -1,27 +1,34 @@
--- The marks of t count twice, the other marks of c once.
-use Prim.Native.Nat.{ℕ, _+_, _^_, _<_}
-use mathlib.Core.Path.{_∙_, sym, ap₂, subst}
+-- It stands in the table.
+use Prim.Native.Nat.{ℕ, _^_, _≤_, _<_}
+use mathlib.Core.Path.{sym, subst}
 use native.Mathlib.Omega.{arith}
-use native.Mathlib.Nat.{pow-le-pow-right}
+use lib.Pow.{pow-mono}
 use borrow.Author.Needs.{needs}
-use Rattle.boxes.proofs.Choices.{through-or, through-lt}
+use Rattle.boxes.proofs.Choices.{through-lt}
+use Rattle.boxes.proofs.Numbers.{boxes-mono}
 use Rattle.boxes.proofs.through.Statement.{statement}
 use Rattle.boxes.proofs.through.Tie as tie
 
-single-requires : tie.Need-single-requires
-single-requires c κs = search needs
+-- its place is one of the table's
+place : (m t : ℕ) → m ≤ 8 → t < 2 ^ m → t < 256
+place m t h l = omega (arith, pow-mono {i = m} {j = 8} h)
 
-single-requires-2 : tie.Need-single-requires-2
-single-requires-2 c κs = search needs
+mul-result : tie.Need-mul-result
+mul-result c = omega (arith, place (c .args .m) (c .args .t) (c .pre .0) (c .pre .2))
 
-add-result : tie.Need-add-result
-add-result c = omega (arith, pow-le-pow-right {n = 3} (omega arith) {i = c .before .before .args .m} {j = 8} (omega arith))
+element-copy-out-result : tie.Need-element-copy-out-result
+element-copy-out-result c = place (c .args .m) (c .args .t) (c .pre .0) (c .pre .2)
+
+cast-result : tie.Need-cast-result
+cast-result c =
+    let a = c .before .args in
+    omega (arith, c .before .pre .1 (a .t) (c .before .pre .2), through-lt (a .m) (a .c) (a .t), boxes-mono {m = a .m} {n = 8} (c .before .pre .0))
 
 returns : tie.Need-returns
 returns c =
-    let a = c .before .before .args in
-    let e = ap₂ (λ (x y : ℕ). x + y) (c .before .single .ensures .0) (c .single2 .ensures .0) ∙ sym (through-or (a .m) (a .c) (a .t)) in
+    let a = c .before .args in
+    let e = c .before .pre .1 (a .t) (c .before .pre .2) in
     (e, subst (λ (b : ℕ). b < 3 ^ a .m) (sym e) (through-lt (a .m) (a .c) (a .t)))
 
 pub through-spec : {M : Type 1} → statement M
-through-spec = tie.close (tie.spec single-requires single-requires-2 add-result returns)
+through-spec = tie.close (tie.spec mul-result element-copy-out-result cast-result returns)
