@@ -4,18 +4,17 @@ use mathlib.Core.Bool.{Bool, true, false, Bool·beq, _&&_, false≢true}
 use mathlib.Core.List.{List, [], _∷_}
 use Prim.Native.Nat.{ℕ, _^_, _<_, _≤_}
 use native.Mathlib.Omega.{arith}
-use lib.Dec.{eqb, ltb}
+use lib.Dec.{ltb}
 use lib.ListN.{getD}
-use lib.Pow.{pow-mono}
-use borrow.Author.Tests.{ltb-true, eqb-true}
-use Rattle.boxes.specs.Boxes.{agrees, contains, through, single}
+use borrow.Author.Tests.{ltb-true}
+use Rattle.boxes.specs.Boxes.{agrees, contains}
 use Rattle.ground.specs.Every.{every}
 use Rattle.ground.proofs.Every.{every-at}
 use Rattle.ground.proofs.Cases.{if, below-or, and-left, and-right}
 use Rattle.boxes.proofs.Boxes.{contains-combination}
 use Rattle.boxes.proofs.Numbers.{boxes-mono}
-use Rattle.boxes.proofs.Choices.{contains-wide, through-wide}
-use Rattle.sets.specs.Sets.{setMarks, has, Sets, Singles}
+use Rattle.boxes.proofs.Choices.{contains-wide}
+use Rattle.sets.specs.Sets.{setMarks, has, Sets}
 use Rattle.sets.proofs.Bits.{has-high}
 
 abbrev pub sets : List ℕ

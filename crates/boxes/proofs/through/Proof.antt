@@ -3,7 +3,6 @@ use Prim.Native.Nat.{ℕ, _^_, _≤_, _<_}
 use mathlib.Core.Path.{sym, subst}
 use native.Mathlib.Omega.{arith}
 use lib.Pow.{pow-mono}
-use borrow.Author.Needs.{needs}
 use Rattle.boxes.proofs.Choices.{through-lt}
 use Rattle.boxes.proofs.Numbers.{boxes-mono}
 use Rattle.boxes.proofs.through.Statement.{statement}

@@ -1,7 +1,7 @@
 -- The entries below c hold what their combinations add.
 use mathlib.Core.Path.{refl}
 use mathlib.Core.Bool.{not}
-use Prim.Native.Nat.{ℕ, _≤_, _-_}
+use Prim.Native.Nat.{_≤_, _-_}
 use native.Mathlib.Omega.{arith}
 use borrow.Author.Needs.{needs}
 use Rattle.boxes.specs.Sums.{only}

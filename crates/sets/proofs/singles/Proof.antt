@@ -1,6 +1,6 @@
 -- The entries below c hold the boxes of their combinations; over fewer marks these are the same.
 use mathlib.Core.Path.{refl, _∙_}
-use Prim.Native.Nat.{ℕ, _^_, _≤_, _-_}
+use Prim.Native.Nat.{_^_, _≤_, _-_}
 use native.Mathlib.Omega.{arith}
 use lib.Pow.{pow-mono}
 use borrow.Author.Needs.{needs}
