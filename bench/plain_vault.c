@@ -503,6 +503,15 @@ static struct vault_reply put_kept(const struct kept *k, uint8_t *out, size_t ro
     return reply(VAULT_DONE, 0, (uint64_t)(p - out));
 }
 
+/* The lines that contain c, by their free marks. */
+static void all_through(unsigned marks, unsigned c, uint16_t *all)
+{
+    all[0] = (uint16_t)single(c);
+    for (unsigned i = 0, n = 1, power = 1; i < marks; i++, n *= 2, power *= 3)
+        for (unsigned t = 0; t < n; t++)
+            all[n + t] = (uint16_t)(all[t] + (2 - (c >> i & 1)) * power);
+}
+
 struct vault_reply tables_receive(const uint8_t *sheet, size_t n, uint64_t c, uint64_t seconds, uint8_t *out, size_t room)
 {
     struct sheet s;
@@ -511,11 +520,14 @@ struct vault_reply tables_receive(const uint8_t *sheet, size_t n, uint64_t c, ui
     if (r.answer != VAULT_DONE)
         return r;
     work_out(&k, &s);
+    uint16_t all[VAULT_COMBINATIONS(VAULT_MOST_MARKS)];
+    all_through(s.marks, (unsigned)c, all);
     for (unsigned free = 0; free < s.size; free++)
-        if (k.held[single((unsigned)c | free) + single(free)] + seconds > VAULT_MOST_HELD)
+        if (k.held[all[free]] + seconds > VAULT_MOST_HELD)
             return reply(VAULT_ABOVE, 0, 0);
+    all_through(s.marks, (unsigned)c, all);
     for (unsigned free = 0; free < s.size; free++)
-        k.held[single((unsigned)c | free) + single(free)] += (uint32_t)seconds;
+        k.held[all[free]] += (uint32_t)seconds;
     return put_kept(&k, out, room);
 }
 

@@ -31,7 +31,7 @@ struct Best {
 }
 
 // Over one mark more, with the power p, a box has the lowest free mark of the box below it, and that mark where it alone is free.
-fn with_mark(lows: &mut [usize; 243], p: usize)
+fn one_mark_more(lows: &mut [usize; 243], p: usize)
     requires { ⌜ p ≤ 81 ⌝ }
 {
     for b in 0..p {
@@ -44,11 +44,11 @@ fn with_mark(lows: &mut [usize; 243], p: usize)
 // For each box the power of 3 of its lowest free mark, 0 where it has none.
 fn lows() -> [usize; 243] {
     let mut lows = [0usize; 243];
-    with_mark(&mut lows, 1);
-    with_mark(&mut lows, 3);
-    with_mark(&mut lows, 9);
-    with_mark(&mut lows, 27);
-    with_mark(&mut lows, 81);
+    one_mark_more(&mut lows, 1);
+    one_mark_more(&mut lows, 3);
+    one_mark_more(&mut lows, 9);
+    one_mark_more(&mut lows, 27);
+    one_mark_more(&mut lows, 81);
     lows
 }
 

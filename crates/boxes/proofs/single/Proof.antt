@@ -23,26 +23,28 @@ sub-marks c = omega (arith, c .power2 .ensures .0, pow-pos (c .before .args .m))
 low : (x : ℕ) → getD fours (x % 16) 0 ≤ 255
 low x = fours-few (x % 16) (omega arith)
 
-high : (m c r : ℕ) → m ≤ 8 → r ≡ 2 ^ m → (bitAnd c (r - 1) / 16 < 16) × (getD fours (bitAnd c (r - 1) / 16) 0 ≤ 255)
-high m c r h e =
-    let k = marks-below m c r h e in
-    let l : bitAnd c (r - 1) / 16 < 16 = omega (arith, k .0, k .1, k .2) in
+high : (c : tie.After-power2)
+    → let x = bitAnd (c .before .args .c) (c .power2 .result - 1) in
+    (x / 16 < 16) × (getD fours (x / 16) 0 ≤ 255)
+high c =
+    let k = marks-below (c .before .args .m) (c .before .args .c) (c .power2 .result) (search needs) (c .power2 .ensures .0) in
+    let l : bitAnd (c .before .args .c) (c .power2 .result - 1) / 16 < 16 = omega (arith, k .0, k .1, k .2) in
     (l, fours-few _ l)
 
 cast-result : tie.Need-cast-result
 cast-result c = omega (arith, low (bitAnd (c .before .args .c) (c .power2 .result - 1)))
 
 array-read-result-2 : tie.Need-array-read-result-2
-array-read-result-2 c = high (c .before .args .m) (c .before .args .c) (c .power2 .result) (search needs) (c .power2 .ensures .0) .0
+array-read-result-2 c = high c .0
 
 cast-result-2 : tie.Need-cast-result-2
-cast-result-2 c = omega (arith, high (c .before .args .m) (c .before .args .c) (c .power2 .result) (search needs) (c .power2 .ensures .0) .1)
+cast-result-2 c = omega (arith, high c .1)
 
 mul-result : tie.Need-mul-result
-mul-result c = omega (arith, high (c .before .args .m) (c .before .args .c) (c .power2 .result) (search needs) (c .power2 .ensures .0) .1)
+mul-result c = omega (arith, high c .1)
 
 add-result : tie.Need-add-result
-add-result c = omega (arith, low (bitAnd (c .before .args .c) (c .power2 .result - 1)), high (c .before .args .m) (c .before .args .c) (c .power2 .result) (search needs) (c .power2 .ensures .0) .1)
+add-result c = omega (arith, low (bitAnd (c .before .args .c) (c .power2 .result - 1)), high c .1)
 
 returns : tie.Need-returns
 returns c =
@@ -52,15 +54,6 @@ returns c =
     (e, subst (λ (n : ℕ). n < 3 ^ a .m) (sym e) (through-lt (a .m) (a .c) 0))
 
 pub single-spec : {M : Type 1} → statement M
-single-spec =
-    tie.close
-    (tie.spec
-    (λ c κs. search needs)
-    sub-marks
-    (λ c. search needs)
-    cast-result
-    array-read-result-2
-    cast-result-2
-    mul-result
-    add-result
-    returns)
+single-spec = tie.close (tie.spec
+    (λ c κs. search needs) sub-marks (λ c. search needs) cast-result array-read-result-2 cast-result-2 mul-result
+    add-result returns)
