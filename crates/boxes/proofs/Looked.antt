@@ -125,17 +125,17 @@ pub marks-few : (b : ℕ) → b < 81 → getD marks b 0 ≤ 255
 unfolding every
 marks-few = bytes 81 marks refl
 
--- both masks of a box, each of two entries
+-- what g takes from an entry is a mask of four marks, so what it takes from two is one of eight
+both : (f g : ℕ → ℕ) → f 0 ≡ 0 → ((b : ℕ) → b < 81 → g (getD marks b 0) ≡ by f 4 b) → (m b : ℕ) → m ≤ 8 → b < 3 ^ m
+    → g (getD marks (b / 81) 0) * 16 + g (getD marks (b % 81) 0) ≡ by f m b
+both f g z e m b h l =
+    let t : 3 ^ m ≤ 3 ^ 8 = boxes-mono h in
+    ap₂ (λ (x y : ℕ). x * 16 + y) (e (b / 81) (omega arith)) (e (b % 81) (omega arith)) ∙ sym (by-fours f b) ∙ by-wide f z m 8 b h l
+
 pub free-at : (m b : ℕ) → m ≤ 8 → b < 3 ^ m → getD marks (b / 81) 0 % 16 * 16 + getD marks (b % 81) 0 % 16 ≡ freeMarks m b
 free-at m b h l =
-    let t : 3 ^ m ≤ 3 ^ 8 = boxes-mono h in
-    let e = by-wide (λ d. d / 2) refl m 8 b h l ∙ free-by m b in
-    let s = by-fours (λ d. d / 2) b in
-    omega (arith, marks-at (b / 81) (omega arith), marks-at (b % 81) (omega arith), free-by 4 (b / 81), free-by 4 (b % 81), freeMarks-lt 4 (b / 81), freeMarks-lt 4 (b % 81), e, s)
+    both (λ d. d / 2) (λ x. x % 16) refl (λ k lk. omega (arith, marks-at k lk, free-by 4 k, freeMarks-lt 4 k)) m b h l ∙ free-by m b
 
 pub on-at : (m b : ℕ) → m ≤ 8 → b < 3 ^ m → getD marks (b / 81) 0 / 16 * 16 + getD marks (b % 81) 0 / 16 ≡ lowest m b
 on-at m b h l =
-    let t : 3 ^ m ≤ 3 ^ 8 = boxes-mono h in
-    let e = by-wide (λ d. d % 2) refl m 8 b h l ∙ on-by m b in
-    let s = by-fours (λ d. d % 2) b in
-    omega (arith, marks-at (b / 81) (omega arith), marks-at (b % 81) (omega arith), on-by 4 (b / 81), on-by 4 (b % 81), freeMarks-lt 4 (b / 81), freeMarks-lt 4 (b % 81), e, s)
+    both (λ d. d % 2) (λ x. x / 16) refl (λ k lk. omega (arith, marks-at k lk, on-by 4 k, freeMarks-lt 4 k)) m b h l ∙ on-by m b
