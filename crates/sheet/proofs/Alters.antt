@@ -10,7 +10,7 @@ use Rattle.sheet.specs.declared.Call.{Call}
 use Rattle.sheet.specs.declared.Move.{Move}
 use Rattle.sheet.specs.declared.Sheet.{Sheet}
 use Rattle.sheet.specs.Limits.{mostMarks}
-use Rattle.sheet.specs.Record.{Table, outside-counts, held-seconds, kept}
+use Rattle.sheet.specs.Record.{Table, outside-counts, either-counts, held-seconds, kept}
 use Rattle.sheet.specs.Calls.{answered, moveOf, shiftIn, movedSheet, didOf}
 use Rattle.sheet.specs.Promises.{Altered}
 use Rattle.sheet.specs.Parts.{Accepted}
@@ -27,6 +27,7 @@ by-answer P n old new o w =
 -- each table is moved by its own shift
 pub table-moved : (v : Move) (s : Sheet) (t : Table) → kept t (movedSheet v s) ≡ moved (s .marks) (v .at) (shiftIn t v) (kept t s)
 table-moved v s outside-counts = refl
+table-moved v s either-counts = refl
 table-moved v s held-seconds = refl
 
 module _ (s : Sheet) (v : Move) (w : Accepted s v) where
@@ -35,8 +36,9 @@ module _ (s : Sheet) (v : Move) (w : Accepted s v) where
       subst (Shifted (s .marks) (v .at) (shiftIn t v) (kept t s)) (sym (table-moved v s t)) (moved-shifted (s .marks) (v .at) (shiftIn t v) (kept t s) (w .bear t))
 
   altered : Altered v s (movedSheet v s)
-  altered = record { marks = refl; tables = table-shifted; some = w .some }
+  altered = record { marks = refl; tables = table-shifted; some = w .some; moves = w .moves }
 
-pub did-alters : (s : Sheet) (k : Call) → didOf mostMarks s k .number ≡ 0 → Altered (moveOf k) s (didOf mostMarks s k .sheet)
+pub did-alters : (s : Sheet) (k : Call) → didOf mostMarks s k .number ≡ 0 → Altered (moveOf s k) s (didOf mostMarks s k .sheet)
 did-alters s k z =
-    subst (Altered (moveOf k) s) (sym (ap (λ (n : ℕ). answered n s (movedSheet (moveOf k) s) .sheet) z)) (altered s (moveOf k) (accepts s k z))
+    let v = moveOf s k in
+    subst (Altered v s) (sym (ap (λ (n : ℕ). answered n s (movedSheet v s) .sheet) z)) (altered s v (accepts s k z))

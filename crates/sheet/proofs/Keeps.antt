@@ -1,102 +1,178 @@
 -- Soundness is kept by every call, whatever its answer. The tables are long enough for the marks that a call takes.
-use Prim.Native.Nat.{ℕ, _+_, _^_, _≤_}
-use mathlib.Core.Path.{_≡_, refl, sym, subst}
-use mathlib.Core.Bool.{Bool, true, false, cond}
+use Prim.Native.Nat.{ℕ, _+_, _^_, _<_, _≤_}
+use mathlib.Core.Path.{_≡_, refl, sym, _∙_, ap, ap₂, subst}
+use mathlib.Core.Bool.{Bool, true, false, cond, _&&_}
 use native.Mathlib.Omega.{arith}
 use native.Mathlib.Nat.{one-le-pow}
-use lib.Dec.{eqb, leb}
+use lib.Dec.{leb, ltb}
 use mathlib.Core.List.{List}
 use lib.ListN.{length}
-use borrow.Author.Tests.{leb-true}
-use Rattle.ground.proofs.Cases.{if, same-or, mark, clash}
+use borrow.Author.Tests.{leb-true, ltb-false}
+use Rattle.ground.proofs.Cases.{if, same-or, clash}
 use Rattle.boxes.specs.Boxes.{allFree}
 use Rattle.boxes.proofs.Boxes.{contains-all}
 use Rattle.boxes.proofs.Sums.{sum-zero}
+use Rattle.tables.specs.declared.Shift.{Shift}
 use Rattle.tables.specs.declared.Shift.the-variants.{Stays}
-use Rattle.tables.specs.Tables.{entry, own, moved, Shifts}
+use Rattle.tables.specs.Tables.{entry, own, Sums, Shifts}
+use Rattle.tables.specs.Parts.{ShiftsAt}
 use Rattle.tables.proofs.Shifts.{own-shifts, shifted-sums, moved-stays}
 use Rattle.sheet.specs.declared.Call.{Call}
-use Rattle.sheet.specs.declared.Call.the-variants.{Enter, Leave, Receive, Withdraw}
+use Rattle.sheet.specs.declared.Call.the-variants.{Change, Receive, Withdraw}
+use Rattle.sheet.specs.declared.Move.{Move}
 use Rattle.sheet.specs.declared.Sheet.{Sheet}
+use Rattle.sheet.specs.declared.Standing.{Standing}
+use Rattle.sheet.specs.declared.Standing.the-variants.{Either, Out}
 use Rattle.sheet.specs.declared.Answer.{Answer}
 use Rattle.sheet.specs.Limits.{marksOk, mostMarks, mostHeld, entries}
-use Rattle.sheet.specs.Record.{Table, outside-counts, held-seconds, kept, sheetOf, opened}
-use Rattle.sheet.specs.Sound.{ClassSound, TimesSound, ClassReady, Ready}
-use Rattle.sheet.specs.Calls.{openOf, standing, classShift, amountShift, classMove, amountMove, moveOf, movedSheet, numberOn, didOf}
+use Rattle.sheet.specs.Record.{isEither, outs, eithers, Table, outside-counts, either-counts, held-seconds, kept, sheetOf, opened}
+use Rattle.sheet.specs.Sound.{tells, ownIn, ClassSound, Apart, TimesSound, ClassReady, Ready}
+use Rattle.sheet.specs.Calls.{openOf, between, amountShift, amountMove, moveOf, shiftIn, movedSheet, numberOn, didOf}
 use Rattle.sheet.specs.Promises.{Long}
 use Rattle.sheet.specs.Parts.{Accepted}
 use Rattle.sheet.proofs.Answers.{open-done, open-refused}
-use Rattle.sheet.proofs.Kept.{class-sound, times-sound}
-use Rattle.sheet.proofs.Alters.{by-answer, table-shifted}
+use Rattle.sheet.proofs.Between.{by-between}
+use Rattle.sheet.proofs.Kept.{adds-one, tells-either, class-sound, times-sound}
+use Rattle.sheet.proofs.Alters.{by-answer, table-moved, table-shifted}
 use Rattle.sheet.proofs.Tests.{ChangePassed, AmountPassed, changes, amounts, accepts, boxes-fit, amount-fits}
+
+-- a shift from x to y takes x to y alone
+shifts-to : (x y z : ℕ) → Shifts (between x y) x z → z ≡ y
+shifts-to x y z = by-between (λ (s : Shift). Shifts s x z → z ≡ y) x y (λ l h. omega arith) (λ l h. omega arith) (λ e h. h ∙ e)
+
+-- a receipt or a withdrawal leaves no more than the limit in the all-free box
+most-after : (more : Bool) (d x y : ℕ) → cond more (leb (x + d) mostHeld) (leb d x) ≡ true → x ≤ mostHeld → Shifts (amountShift more d) x y → y ≤ mostHeld
+most-after true d x y e l h = omega (arith, leb-true (x + d) mostHeld e)
+most-after false d x y e l h = omega arith
+
+-- nothing less is nothing
+none-less : (d x y : ℕ) → Shifts (amountShift false d) x y → x ≡ 0 → y ≡ 0
+none-less d x y h e = omega arith
 
 module _ (s : Sheet) (long : Long entries s) where
   -- each table has an entry for each box
   room : marksOk mostMarks (s .marks) ≡ true → (t : Table) → 3 ^ s .marks ≤ length (kept t s)
   room marks t = omega (arith, boxes-fit (s .marks) marks, long t)
 
-  -- a class change leaves the own count of its combination 0 or 1
-  one-after : (into : Bool) (x y : ℕ) → x ≤ 1 → eqb x (standing into) ≡ false → Shifts (classShift into) x y → y ≤ 1
-  one-after true x y l e h = omega arith
-  one-after false x y l e h = mark (λ (v : ℕ). eqb v 1 ≡ false → Shifts (classShift false) v y → y ≤ 1) x (omega arith) (λ w q. omega arith) (λ w q. clash refl w) e h
+  -- an accepted move: sums stay sums, and own numbers are shifted
+  module _ (v : Move) (a : Accepted s v) where
+    sums-moved : (t : Table) → Sums (s .marks) (entry (kept t s)) → Sums (s .marks) (entry (kept t (movedSheet v s)))
+    sums-moved t = shifted-sums (table-shifted s v a t) (room (a .marks) t) (a .low)
 
-  -- and a receipt or a withdrawal no more than the limit in the all-free box
-  most-after : (more : Bool) (d x y : ℕ) → cond more (leb (x + d) mostHeld) (leb d x) ≡ true → x ≤ mostHeld → Shifts (amountShift more d) x y → y ≤ mostHeld
-  most-after true d x y e l h = omega (arith, leb-true (x + d) mostHeld e)
-  most-after false d x y e l h = omega arith
+    own-moved : (t : Table) → ShiftsAt (s .marks) (v .at) (shiftIn t v) (own (s .marks) (kept t s)) (own (s .marks) (kept t (movedSheet v s)))
+    own-moved t = own-shifts (table-shifted s v a t) (room (a .marks) t) (a .low)
 
-  module _ (into : Bool) (c : ℕ) (w : ChangePassed mostMarks into (s .marks) (s .outside) c) (a : Accepted s (classMove into c)) where
-    class-moved : ClassSound (s .marks) (s .outside) → ClassSound (s .marks) (movedSheet (classMove into c) s .outside)
-    class-moved sound =
-        let v = table-shifted s (classMove into c) a outside-counts in
-        let fit = room (w .marks) outside-counts in
-        let own-moved = own-shifts v fit (w .low) in
+    all-moved : (t : Table) → Shifts (shiftIn t v) (entry (kept t s) (allFree (s .marks))) (entry (kept t (movedSheet v s)) (allFree (s .marks)))
+    all-moved t =
+        table-shifted s v a t .touched (allFree (s .marks)) (omega (arith, room (a .marks) t, one-le-pow (s .marks) 3 (omega arith)))
+        (contains-all (s .marks) (v .at) (a .low))
+
+    -- what holds of the own numbers of the move's combination afterwards, and of each combination before, holds of each afterwards
+    each-own : (P : ℕ → ℕ → ℕ → Type 0)
+        → (let u = movedSheet v s in P (ownIn outside-counts u (v .at)) (ownIn either-counts u (v .at)) (ownIn held-seconds u (v .at)))
+        → ((c : ℕ) → c < 2 ^ s .marks → P (ownIn outside-counts s c) (ownIn either-counts s c) (ownIn held-seconds s c))
+        → (c : ℕ) → c < 2 ^ s .marks → (let u = movedSheet v s in P (ownIn outside-counts u c) (ownIn either-counts u c) (ownIn held-seconds u c))
+    each-own P here before c l =
+        let u = movedSheet v s in
+        same-or c (v .at)
+        (λ e. subst (λ (x : ℕ). P (ownIn outside-counts u x) (ownIn either-counts u x) (ownIn held-seconds u x)) (sym e) here)
+        (λ n. subst (λ (x : ℕ). P x (ownIn either-counts u c) (ownIn held-seconds u c)) (sym (own-moved outside-counts .others c l n))
+        (subst (λ (x : ℕ). P (ownIn outside-counts s c) x (ownIn held-seconds u c)) (sym (own-moved either-counts .others c l n))
+        (subst (P (ownIn outside-counts s c) (ownIn either-counts s c)) (sym (own-moved held-seconds .others c l n)) (before c l))))
+
+  -- a class change leaves the own counts of its new standing
+  module _ (to : Standing) (c : ℕ) (z : numberOn mostMarks s (Change to c) ≡ 0) where
+    abbrev changed : Sheet
+    changed = movedSheet (moveOf s (Change to c)) s
+
+    outs-now : ownIn outside-counts changed c ≡ outs to
+    outs-now = shifts-to (ownIn outside-counts s c) (outs to) _ (own-moved (moveOf s (Change to c)) (accepts s (Change to c) z) outside-counts .here)
+
+    eithers-now : ownIn either-counts changed c ≡ eithers to
+    eithers-now = shifts-to (ownIn either-counts s c) (eithers to) _ (own-moved (moveOf s (Change to c)) (accepts s (Change to c) z) either-counts .here)
+
+  -- what a receipt or a withdrawal leaves of the own counts: all
+  module _ (more : Bool) (c d : ℕ) (a : Accepted s (amountMove more c d)) where
+    abbrev paid : Sheet
+    paid = movedSheet (amountMove more c d) s
+
+    outs-still : ownIn outside-counts paid c ≡ ownIn outside-counts s c
+    outs-still = own-moved (amountMove more c d) a outside-counts .here
+
+    eithers-still : ownIn either-counts paid c ≡ ownIn either-counts s c
+    eithers-still = own-moved (amountMove more c d) a either-counts .here
+
+  module _ (sound : ClassSound (s .marks) (s .outside) (s .either)) where
+    tells-here : (k : Call) → numberOn mostMarks s k ≡ 0
+        → let u = movedSheet (moveOf s k) s in ownIn outside-counts u (moveOf s k .at) + ownIn either-counts u (moveOf s k .at) ≤ 1
+    tells-here (Change to c) z = omega (arith, outs-now to c z, eithers-now to c z, adds-one to)
+    tells-here (Receive c d) z =
+        let a = accepts s (Receive c d) z in omega (arith, outs-still true c d a, eithers-still true c d a, sound .tells c (a .low))
+    tells-here (Withdraw c d) z =
+        let a = accepts s (Withdraw c d) z in omega (arith, outs-still false c d a, eithers-still false c d a, sound .tells c (a .low))
+
+    class-after : (k : Call) → numberOn mostMarks s k ≡ 0 → let u = movedSheet (moveOf s k) s in ClassSound (s .marks) (u .outside) (u .either)
+    class-after k z =
+        let v = moveOf s k in
+        let a = accepts s k z in
         record {
-          sums = shifted-sums v fit (w .low) (sound .sums);
-          ones = λ x l. same-or x c
-              (λ e. subst (λ (y : ℕ). own (s .marks) (movedSheet (classMove into c) s .outside) y ≤ 1) (sym e) (one-after into _ _ (w .one) (w .other) (own-moved .here)))
-              (λ n. omega (arith, own-moved .others x l n, sound .ones x l));
+          outsides = sums-moved v a outside-counts (sound .outsides);
+          eithers = sums-moved v a either-counts (sound .eithers);
+          tells = each-own v a (λ (x y h : ℕ). x + y ≤ 1) (tells-here k z) (sound .tells);
         }
 
-  module _ (more : Bool) (c d : ℕ) (w : AmountPassed mostMarks more (s .marks) (s .held) c d) (a : Accepted s (amountMove more c d)) where
-    times-moved : TimesSound (s .marks) (s .held) → TimesSound (s .marks) (movedSheet (amountMove more c d) s .held)
-    times-moved sound =
-        let v = table-shifted s (amountMove more c d) a held-seconds in
-        let fit = room (w .marks) held-seconds in
-        let b = allFree (s .marks) in
-        let all = contains-all (s .marks) c (w .low) in
+  module _ (sound : TimesSound (s .marks) (s .outside) (s .either) (s .held)) where
+    most-paid : (more : Bool) (c d : ℕ) → AmountPassed mostMarks more s c d → Accepted s (amountMove more c d)
+        → entry (movedSheet (amountMove more c d) s .held) (allFree (s .marks)) ≤ mostHeld
+    most-paid more c d w a =
+        most-after more d _ _ (amount-fits (s .marks) c more d (s .held) (w .fits) (allFree (s .marks)) (contains-all (s .marks) c (w .low))) (sound .most)
+        (all-moved (amountMove more c d) a held-seconds)
+
+    most-now : (k : Call) → numberOn mostMarks s k ≡ 0 → entry (movedSheet (moveOf s k) s .held) (allFree (s .marks)) ≤ mostHeld
+    most-now (Change to c) z = omega (arith, all-moved (moveOf s (Change to c)) (accepts s (Change to c) z) held-seconds, sound .most)
+    most-now (Receive c d) z = most-paid true c d (amounts mostMarks true s c d z) (accepts s (Receive c d) z)
+    most-now (Withdraw c d) z = most-paid false c d (amounts mostMarks false s c d z) (accepts s (Withdraw c d) z)
+
+    apart-here : (k : Call) → numberOn mostMarks s k ≡ 0
+        → let u = movedSheet (moveOf s k) s in
+        let c = moveOf s k .at in
+        tells Either (ownIn outside-counts u c) (ownIn either-counts u c) ≡ true → ownIn held-seconds u c ≡ 0
+    apart-here (Change to c) z t =
+        let w = changes mostMarks to s c z in
+        let either : isEither to ≡ true = sym (tells-either to) ∙ sym (ap₂ (tells Either) (outs-now to c z) (eithers-now to c z)) ∙ t in
+        let none : ltb 0 (ownIn held-seconds s c) ≡ false = sym (ap (λ (e : Bool). e && ltb 0 (ownIn held-seconds s c)) either) ∙ w .apart in
+        omega (arith, own-moved (moveOf s (Change to c)) (accepts s (Change to c) z) held-seconds .here, ltb-false 0 (ownIn held-seconds s c) none)
+    apart-here (Receive c d) z t =
+        let a = accepts s (Receive c d) z in
+        clash (sym (ap₂ (tells Either) (outs-still true c d a) (eithers-still true c d a)) ∙ t) (amounts mostMarks true s c d z .standing)
+    apart-here (Withdraw c d) z t =
+        let a = accepts s (Withdraw c d) z in
+        none-less d _ _ (own-moved (amountMove false c d) a held-seconds .here)
+        (sound .apart c (a .low) (sym (ap₂ (tells Either) (outs-still false c d a) (eithers-still false c d a)) ∙ t))
+
+    times-after : (k : Call) → numberOn mostMarks s k ≡ 0 → let u = movedSheet (moveOf s k) s in TimesSound (s .marks) (u .outside) (u .either) (u .held)
+    times-after k z =
+        let v = moveOf s k in
+        let a = accepts s k z in
         record {
-          sums = shifted-sums v fit (w .low) (sound .sums);
-          most = most-after more d (entry (s .held) b) _ (amount-fits (s .marks) c more d (s .held) (w .fits) b all) (sound .most)
-              (v .touched b (omega (arith, one-le-pow (s .marks) 3 (omega arith))) all);
+          sums = sums-moved v a held-seconds (sound .sums);
+          most = most-now k z;
+          apart = each-own v a (λ (x y h : ℕ). tells Either x y ≡ true → h ≡ 0) (apart-here k z) (sound .apart);
         }
-
-  -- a table that stays is as sound as it was
-  still : (P : List ℕ → Type 0) (c : ℕ) (t : List ℕ) → P t → P (moved (s .marks) c Stays t)
-  still P c t p = subst P (moved-stays (s .marks) c Stays t refl) p
-
-  class-after : (k : Call) → numberOn mostMarks s k ≡ 0 → ClassSound (s .marks) (s .outside) → ClassSound (s .marks) (movedSheet (moveOf k) s .outside)
-  class-after (Enter c) z = class-moved true c (changes mostMarks true (s .marks) (s .outside) c z) (accepts s (Enter c) z)
-  class-after (Leave c) z = class-moved false c (changes mostMarks false (s .marks) (s .outside) c z) (accepts s (Leave c) z)
-  class-after (Receive c d) z = still (ClassSound (s .marks)) c (s .outside)
-  class-after (Withdraw c d) z = still (ClassSound (s .marks)) c (s .outside)
-
-  times-after : (k : Call) → numberOn mostMarks s k ≡ 0 → TimesSound (s .marks) (s .held) → TimesSound (s .marks) (movedSheet (moveOf k) s .held)
-  times-after (Enter c) z = still (TimesSound (s .marks)) c (s .held)
-  times-after (Leave c) z = still (TimesSound (s .marks)) c (s .held)
-  times-after (Receive c d) z = times-moved true c d (amounts mostMarks true (s .marks) (s .held) c d z) (accepts s (Receive c d) z)
-  times-after (Withdraw c d) z = times-moved false c d (amounts mostMarks false (s .marks) (s .held) c d z) (accepts s (Withdraw c d) z)
 
   -- SOUNDNESS IS KEPT, of each table
-  pub class-kept : (k : Call) → ClassSound (s .marks) (s .outside) → let u = didOf mostMarks s k .sheet in ClassSound (u .marks) (u .outside)
-  class-kept k sound = by-answer (λ (u : Sheet). ClassSound (u .marks) (u .outside)) _ s (movedSheet (moveOf k) s) sound (λ z. class-after k z sound)
+  pub class-kept : (k : Call) → ClassSound (s .marks) (s .outside) (s .either) → let u = didOf mostMarks s k .sheet in ClassSound (u .marks) (u .outside) (u .either)
+  class-kept k sound =
+      by-answer (λ (u : Sheet). ClassSound (u .marks) (u .outside) (u .either)) _ s (movedSheet (moveOf s k) s) sound (λ z. class-after sound k z)
 
-  pub times-kept : (k : Call) → TimesSound (s .marks) (s .held) → let u = didOf mostMarks s k .sheet in TimesSound (u .marks) (u .held)
-  times-kept k sound = by-answer (λ (u : Sheet). TimesSound (u .marks) (u .held)) _ s (movedSheet (moveOf k) s) sound (λ z. times-after k z sound)
+  pub times-kept : (k : Call) → TimesSound (s .marks) (s .outside) (s .either) (s .held)
+      → let u = didOf mostMarks s k .sheet in TimesSound (u .marks) (u .outside) (u .either) (u .held)
+  times-kept k sound =
+      by-answer (λ (u : Sheet). TimesSound (u .marks) (u .outside) (u .either) (u .held)) _ s (movedSheet (moveOf s k) s) sound (λ z. times-after sound k z)
 
   pub ready-kept : (k : Call) → Ready mostMarks s → Ready mostMarks (didOf mostMarks s k .sheet)
-  ready-kept k ready = by-answer (Ready mostMarks) _ s (movedSheet (moveOf k) s) ready
-      (λ z. record { marks = ready .marks; class = class-after k z (ready .class); times = times-after k z (ready .times) })
+  ready-kept k ready = by-answer (Ready mostMarks) _ s (movedSheet (moveOf s k) s) ready
+      (λ z. record { marks = ready .marks; class = class-after (ready .class) k z; times = times-after (ready .times) k z })
 
 -- a sheet that is fit for every call is fit for those that read the class
 pub class-of-ready : {most : ℕ} {s : Sheet} → Ready most s → ClassReady most s
@@ -107,7 +183,11 @@ class-of-ready r = record { marks = r .marks; class = r .class }
 opened-ready : (m : ℕ) → marksOk mostMarks m ≡ true → Ready mostMarks (sheetOf entries (opened m))
 opened-ready m e =
     let l = boxes-fit m e in
-    record { marks = e; class = class-sound entries m l (λ c. false); times = times-sound entries m l (λ c. 0) (omega (arith, sum-zero (2 ^ m))) }
+    record {
+      marks = e;
+      class = class-sound entries m l (λ c. Out);
+      times = times-sound entries m l (λ c. Out) (λ c. 0) (omega (arith, sum-zero (2 ^ m))) (λ c w. refl);
+    }
 
 pub open-ready : (m : ℕ) → Ready mostMarks (openOf mostMarks entries m .sheet)
 unfolding marksOk

@@ -1,46 +1,67 @@
 -- A sheet worked out afresh from a record is sound, and tells the record.
-use Prim.Native.Nat.{ℕ, _^_, _<_, _≤_}
-use mathlib.Core.Path.{_≡_, refl, _∙_, ap}
-use mathlib.Core.Bool.{Bool, true, false, not, _&&_}
+use Prim.Native.Nat.{ℕ, _+_, _^_, _<_, _≤_}
+use mathlib.Core.Path.{_≡_, refl, sym, _∙_, ap, ap₂}
+use mathlib.Core.Bool.{Bool, true, false}
 use native.Mathlib.Nat.{one-le-pow}
 use native.Mathlib.Omega.{arith}
-use lib.Dec.{eqb}
-use borrow.Author.Tests.{lt-ltb}
 use Rattle.boxes.specs.Boxes.{allFree}
-use Rattle.boxes.specs.Sums.{sum, only}
+use Rattle.boxes.specs.Sums.{sum}
 use Rattle.boxes.proofs.Boxes.{sumIn-all}
+use Rattle.ground.proofs.Cases.{clash}
 use Rattle.tables.specs.Tables.{entry, own, afresh}
 use Rattle.tables.proofs.Entries.{afresh-own, afresh-sums, afresh-entry}
 use Rattle.sheet.specs.Limits.{mostHeld}
-use Rattle.sheet.specs.Record.{outOf}
-use Rattle.sheet.specs.Sound.{ClassSound, TimesSound, classOf}
+use Rattle.sheet.specs.Record.{isEither, outs, eithers}
+use Rattle.sheet.specs.Sound.{tells, toldBy, ClassSound, TimesSound}
+use Rattle.sheet.specs.declared.Standing.{Standing}
+use Rattle.sheet.specs.declared.Standing.the-variants.{In, Out, Either}
 
-out-one : (e : Bool) → only (not e) 1 ≤ 1
-out-one true = omega arith
-out-one false = omega arith
+-- what a combination of a standing adds tells the standing
 
-out-told : (e : Bool) → eqb (only (not e) 1) 0 ≡ e
-out-told true = refl
-out-told false = refl
+pub adds-one : (s : Standing) → outs s + eithers s ≤ 1
+adds-one In = omega arith
+adds-one Out = omega arith
+adds-one Either = omega arith
+
+pub told-back : (s : Standing) → toldBy (outs s) (eithers s) ≡ s
+told-back In = refl
+told-back Out = refl
+told-back Either = refl
+
+pub tells-either : (s : Standing) → tells Either (outs s) (eithers s) ≡ isEither s
+tells-either In = refl
+tells-either Out = refl
+tells-either Either = refl
 
 module _ (n m : ℕ) (fits : 3 ^ m ≤ n) where
-  module _ (class : ℕ → Bool) where
-    pub class-sound : ClassSound m (afresh n m (outOf class))
+  module _ (standing : ℕ → Standing) where
+    abbrev outside : ℕ → ℕ
+    outside c = outs (standing c)
+
+    abbrev either : ℕ → ℕ
+    either c = eithers (standing c)
+
+    pub class-sound : ClassSound m (afresh n m outside) (afresh n m either)
     class-sound = record {
-      sums = afresh-sums n m (outOf class) fits;
-      ones = λ c l. omega (arith, afresh-own n m (outOf class) fits c l, out-one (class c));
+      outsides = afresh-sums n m outside fits;
+      eithers = afresh-sums n m either fits;
+      tells = λ c l. omega (arith, afresh-own n m outside fits c l, afresh-own n m either fits c l, adds-one (standing c));
     }
 
-    -- the class that the counts tell is the record's
-    pub class-told : (c : ℕ) → c < 2 ^ m → classOf m (afresh n m (outOf class)) c ≡ class c
-    class-told c l =
-        ap (λ (e : Bool). e && eqb (own m (afresh n m (outOf class)) c) 0) (lt-ltb c (2 ^ m) l)
-        ∙ ap (λ (x : ℕ). eqb x 0) (afresh-own n m (outOf class) fits c l) ∙ out-told (class c)
+    -- the standing that the counts tell is the record's
+    pub standing-told : (c : ℕ) → c < 2 ^ m → toldBy (own m (afresh n m outside) c) (own m (afresh n m either) c) ≡ standing c
+    standing-told c l = ap₂ toldBy (afresh-own n m outside fits c l) (afresh-own n m either fits c l) ∙ told-back (standing c)
 
   pub times-total : (times : ℕ → ℕ) → entry (afresh n m times) (allFree m) ≡ sum (2 ^ m) times
   times-total times =
       let p : 1 ≤ 3 ^ m = one-le-pow m 3 (omega arith) in
       afresh-entry n m times (allFree m) (omega arith) ∙ sumIn-all m times
 
-  pub times-sound : (times : ℕ → ℕ) → sum (2 ^ m) times ≤ mostHeld → TimesSound m (afresh n m times)
-  times-sound times l = record { sums = afresh-sums n m times fits; most = omega (arith, times-total times) }
+  pub times-sound : (standing : ℕ → Standing) (times : ℕ → ℕ) → sum (2 ^ m) times ≤ mostHeld → ((c : ℕ) → isEither (standing c) ≡ true → times c ≡ 0)
+      → TimesSound m (afresh n m (outside standing)) (afresh n m (either standing)) (afresh n m times)
+  times-sound standing times l apart = record {
+    sums = afresh-sums n m times fits;
+    most = omega (arith, times-total times);
+    apart = λ c lc e. afresh-own n m times fits c lc
+        ∙ apart c (sym (tells-either (standing c)) ∙ sym (ap₂ (tells Either) (afresh-own n m (outside standing) fits c lc) (afresh-own n m (either standing) fits c lc)) ∙ e);
+  }

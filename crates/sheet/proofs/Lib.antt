@@ -1,4 +1,6 @@
+pub mod Between
 pub mod Tests
+pub mod Reading
 pub mod Ready
 pub mod Answers
 pub mod Opening

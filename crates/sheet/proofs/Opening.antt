@@ -1,13 +1,13 @@
 -- The lists that an opened sheet is worked out from: the same number for each combination.
 use Prim.Native.Nat.{ℕ, _^_, _<_, _≤_}
-use mathlib.Core.Path.{_≡_, ap₂}
+use mathlib.Core.Path.{_≡_, _∙_, ap, ap₂}
 use native.Mathlib.Nat.{pow-le-pow-right}
 use native.Mathlib.Omega.{arith}
 use mathlib.Core.List.{List}
 use lib.ListN.{length, replicate, getD-replicate, length-replicate}
 use Rattle.boxes.proofs.Boxes.{sumIn-all}
 use Rattle.boxes.proofs.Sums.{sum-le, sum-ones}
-use Rattle.tables.specs.Tables.{entry}
+use Rattle.tables.specs.Tables.{entry, afresh}
 use Rattle.tables.proofs.Entries.{afresh-ext}
 use Rattle.sheet.specs.declared.Sheet.{Sheet}
 use Rattle.sheet.specs.Record.{sheetFrom, sheetWith}
@@ -31,6 +31,8 @@ same-addable m x l lx =
     ones-addable m (replicate 32 x) l (omega (arith, combinations-fit m l, length-replicate 32 x)) (λ c lc. omega (arith, same-entry m x c l lc))
 
 -- a sheet is the same worked out from what is the same of each combination
-pub sheet-same : (n m : ℕ) (f f′ g g′ : ℕ → ℕ) → ((c : ℕ) → c < 2 ^ m → f c ≡ f′ c) → ((c : ℕ) → c < 2 ^ m → g c ≡ g′ c)
-    → _≡_ {A = Sheet} (sheetFrom n m f g) (sheetFrom n m f′ g′)
-sheet-same n m f f′ g g′ hf hg = ap₂ (sheetWith m) (afresh-ext n m f f′ hf) (afresh-ext n m g g′ hg)
+pub sheet-same : (n m : ℕ) (f f′ g g′ h h′ : ℕ → ℕ) → ((c : ℕ) → c < 2 ^ m → f c ≡ f′ c) → ((c : ℕ) → c < 2 ^ m → g c ≡ g′ c) → ((c : ℕ) → c < 2 ^ m → h c ≡ h′ c)
+    → _≡_ {A = Sheet} (sheetFrom n m f g h) (sheetFrom n m f′ g′ h′)
+sheet-same n m f f′ g g′ h h′ hf hg hh =
+    ap₂ (λ (x y : List ℕ). sheetWith m x y (afresh n m h)) (afresh-ext n m f f′ hf) (afresh-ext n m g g′ hg)
+    ∙ ap (sheetWith m (afresh n m f′) (afresh n m g′)) (afresh-ext n m h h′ hh)

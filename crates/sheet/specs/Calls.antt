@@ -1,20 +1,22 @@
 -- The calls that open and change a sheet: the number of 01's table, by its order of tests read top down, and the sheet that is left.
 -- Largest marks and a table's length are parameters.
-use Prim.Native.Nat.{ℕ, _+_, _^_}
-use mathlib.Core.Bool.{Bool, true, false, not, cond}
+use Prim.Native.Nat.{ℕ, _+_, _-_, _^_}
+use mathlib.Core.Bool.{Bool, true, false, not, cond, _&&_}
 use mathlib.Core.List.{List}
-use lib.Dec.{eqb, leb, ltb}
+use lib.Dec.{leb, ltb, eqb}
 use Rattle.boxes.specs.Boxes.{freeCount}
 use Rattle.tables.specs.declared.Shift.{Shift}
 use Rattle.tables.specs.declared.Shift.the-variants.{Stays, Up, Down}
-use Rattle.tables.specs.Tables.{entry, own, moved, fitsShifted, touched}
+use Rattle.tables.specs.Tables.{entry, moved, fitsShifted, touched}
 use Rattle.sheet.specs.Limits.{marksOk, amountOk, mostHeld}
-use Rattle.sheet.specs.Record.{Table, outside-counts, held-seconds, sheetWith, sheetOf, opened}
-use Rattle.sheet.specs.Sound.{ClassReady, classOf, sizeOf}
+use Rattle.sheet.specs.Record.{isEither, outs, eithers, Table, outside-counts, either-counts, held-seconds, sheetWith, sheetOf, opened, inClass}
+use Rattle.sheet.specs.Sound.{ownIn, tells, ClassReady, recordOf, sizeOf}
 use Rattle.sheet.specs.declared.Call.{Call}
-use Rattle.sheet.specs.declared.Call.the-variants.{Enter, Leave, Receive, Withdraw}
+use Rattle.sheet.specs.declared.Call.the-variants.{Change, Receive, Withdraw}
 use Rattle.sheet.specs.declared.Move.{Move}
 use Rattle.sheet.specs.declared.Sheet.{Sheet}
+use Rattle.sheet.specs.declared.Standing.{Standing}
+use Rattle.sheet.specs.declared.Standing.the-variants.{Either}
 use Rattle.sheet.specs.declared.Answer.{Answer}
 use Rattle.sheet.specs.declared.Value.{Value}
 
@@ -24,50 +26,56 @@ openOf most n m = cond (marksOk most m) (record { number = 0; sheet = sheetOf n 
 
 -- A call is a move at one combination: in the boxes that contain it each table stays, or has some more, or some less.
 
--- into the class (true) the outside counts fall by one, out of it (false) they rise by one
-abbrev pub classShift : Bool → Shift
-classShift into = cond into (Down 1) (Up 1)
+-- from x to y
+abbrev pub between : ℕ → ℕ → Shift
+between x y = cond (ltb x y) (Up (y - x)) (cond (ltb y x) (Down (x - y)) Stays)
+
+-- a class change takes the own counts o and e of the combination to those of the new standing
+abbrev pub changeMove : (o e : ℕ) → Standing → ℕ → Move
+changeMove o e to c = record { at = c; outside = between o (outs to); either = between e (eithers to); held = Stays }
 
 -- a receipt (true) of d seconds is so many more, a withdrawal (false) so many less
 abbrev pub amountShift : Bool → ℕ → Shift
 amountShift more d = cond more (Up d) (Down d)
 
-abbrev pub classMove : Bool → ℕ → Move
-classMove into c = record { at = c; outside = classShift into; held = Stays }
-
 abbrev pub amountMove : Bool → ℕ → ℕ → Move
-amountMove more c d = record { at = c; outside = Stays; held = amountShift more d }
+amountMove more c d = record { at = c; outside = Stays; either = Stays; held = amountShift more d }
 
-abbrev pub moveOf : Call → Move
-moveOf (Enter c) = classMove true c
-moveOf (Leave c) = classMove false c
-moveOf (Receive c d) = amountMove true c d
-moveOf (Withdraw c d) = amountMove false c d
+abbrev pub moveOf : Sheet → Call → Move
+moveOf s (Change to c) = changeMove (ownIn outside-counts s c) (ownIn either-counts s c) to c
+moveOf s (Receive c d) = amountMove true c d
+moveOf s (Withdraw c d) = amountMove false c d
 
 abbrev pub shiftIn : Table → Move → Shift
 shiftIn outside-counts v = v .outside
+shiftIn either-counts v = v .either
 shiftIn held-seconds v = v .held
 
 abbrev pub movedSheet : Move → Sheet → Sheet
-movedSheet v s = sheetWith (s .marks) (moved (s .marks) (v .at) (v .outside) (s .outside)) (moved (s .marks) (v .at) (v .held) (s .held))
+movedSheet v s =
+    sheetWith (s .marks) (moved (s .marks) (v .at) (v .outside) (s .outside)) (moved (s .marks) (v .at) (v .either) (s .either))
+    (moved (s .marks) (v .at) (v .held) (s .held))
 
 -- a class change
 
--- the own count of a combination that stands in the class already, or out of it
-abbrev pub standing : Bool → ℕ
-standing into = cond into 0 1
+-- after the move each touched count of a table is 0 to 2^f, for f free marks
+unfoldable pub fitsCount : ℕ → Shift → List ℕ → ℕ → Bool
+fitsCount m by t b = fitsShifted by (2 ^ freeCount m b) (entry t b)
 
--- after the move each touched count is 0 to 2^f, for f free marks
-unfoldable pub fitsClass : Bool → ℕ → List ℕ → ℕ → Bool
-fitsClass into m t b = fitsShifted (classShift into) (2 ^ freeCount m b) (entry t b)
+-- both counts of each touched box are judged, also the one that does not move
+abbrev pub countsFit : Standing → Sheet → ℕ → Bool
+countsFit to s c =
+    touched (s .marks) c (fitsCount (s .marks) (between (ownIn outside-counts s c) (outs to)) (s .outside))
+    && touched (s .marks) c (fitsCount (s .marks) (between (ownIn either-counts s c) (eithers to)) (s .either))
 
-unfoldable pub changeNo : ℕ → Bool → ℕ → List ℕ → ℕ → ℕ
-changeNo most into m outside c =
-    cond (not (marksOk most m)) 7
-    (cond (leb (2 ^ m) c) 2
-    (cond (ltb 1 (own m outside c)) 7
-    (cond (eqb (own m outside c) (standing into)) 3
-    (cond (not (touched m c (fitsClass into m outside))) 7 0))))
+unfoldable pub changeNo : ℕ → Standing → Sheet → ℕ → ℕ
+changeNo most to s c =
+    cond (not (marksOk most (s .marks))) 7
+    (cond (leb (2 ^ s .marks) c) 2
+    (cond (ltb 1 (ownIn outside-counts s c + ownIn either-counts s c)) 7
+    (cond (tells to (ownIn outside-counts s c) (ownIn either-counts s c)) 3
+    (cond (isEither to && ltb 0 (ownIn held-seconds s c)) 12
+    (cond (not (countsFit to s c)) 7 0)))))
 
 -- a receipt or a withdrawal
 
@@ -75,19 +83,20 @@ changeNo most into m outside c =
 unfoldable pub fitsAmount : Bool → ℕ → List ℕ → ℕ → Bool
 fitsAmount more d t b = cond more (leb (entry t b + d) mostHeld) (leb d (entry t b))
 
-unfoldable pub amountNo : ℕ → Bool → ℕ → List ℕ → ℕ → ℕ → ℕ
-amountNo most more m held c d =
-    cond (not (marksOk most m)) 7
-    (cond (leb (2 ^ m) c) 2
+-- a receipt asks whether the combination is either
+unfoldable pub amountNo : ℕ → Bool → Sheet → ℕ → ℕ → ℕ
+amountNo most more s c d =
+    cond (not (marksOk most (s .marks))) 7
+    (cond (leb (2 ^ s .marks) c) 2
     (cond (not (amountOk d)) 4
-    (cond (not (touched m c (fitsAmount more d held))) (cond more 8 9) 0)))
+    (cond (more && tells Either (ownIn outside-counts s c) (ownIn either-counts s c)) 12
+    (cond (not (touched (s .marks) c (fitsAmount more d (s .held)))) (cond more 8 9) 0))))
 
 -- the number of a call on a sheet
 abbrev pub numberOn : ℕ → Sheet → Call → ℕ
-numberOn most s (Enter c) = changeNo most true (s .marks) (s .outside) c
-numberOn most s (Leave c) = changeNo most false (s .marks) (s .outside) c
-numberOn most s (Receive c d) = amountNo most true (s .marks) (s .held) c d
-numberOn most s (Withdraw c d) = amountNo most false (s .marks) (s .held) c d
+numberOn most s (Change to c) = changeNo most to s c
+numberOn most s (Receive c d) = amountNo most true s c d
+numberOn most s (Withdraw c d) = amountNo most false s c d
 
 -- a refused call leaves the sheet as it was
 abbrev pub answered : ℕ → Sheet → Sheet → Answer
@@ -95,9 +104,9 @@ answered number old new = record { number = number; sheet = cond (eqb number 0) 
 
 -- WHAT A CALL ANSWERS AND LEAVES
 abbrev pub didOf : ℕ → Sheet → Call → Answer
-didOf most s k = answered (numberOn most s k) s (movedSheet (moveOf k) s)
+didOf most s k = answered (numberOn most s k) s (movedSheet (moveOf s k) s)
 
 -- class size: 7 as for the list, else the number of combinations in the class that the counts tell
 pub data ClassSize (most : ℕ) (s : Sheet) : Value → Type 0 where
   spoiled : (ClassReady most s → ⊥) → ClassSize most s (record { number = 7; value = 0 })
-  told : ClassReady most s → ClassSize most s (record { number = 0; value = sizeOf (s .marks) (classOf (s .marks) (s .outside)) })
+  told : ClassReady most s → ClassSize most s (record { number = 0; value = sizeOf (s .marks) (inClass (recordOf s)) })

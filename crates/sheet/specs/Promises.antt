@@ -35,8 +35,10 @@ SomeShift Stays = Unit {0}
 SomeShift (Up d) = 0 < d
 SomeShift (Down d) = 0 < d
 
--- a move was made: each table that it shifts differs in exactly the boxes that contain the combination, each of them, and nothing else does
+-- a move was made: each table that it shifts differs in exactly the boxes that contain the combination, each of them, and nothing else does; and it
+-- shifts one
 pub record Altered (v : Move) (s u : Sheet) : Type 0 where
   pub marks : u .marks ≡ s .marks
   pub tables : (t : Table) → Shifted (s .marks) (v .at) (shiftIn t v) (kept t s) (kept t u)
   pub some : (t : Table) → SomeShift (shiftIn t v)
+  pub moves : (t : Table) × (shiftIn t v ≡ Stays → ⊥)

@@ -1,44 +1,68 @@
--- When a sheet's tables are sound, and what they tell of the class and its times.
-use Prim.Native.Nat.{ℕ, _^_, _≤_, _<_}
+-- When a sheet's tables are sound, and what they tell of the standings and times.
+use Prim.Native.Nat.{ℕ, _+_, _^_, _≤_, _<_}
 use mathlib.Core.Path.{_≡_}
-use mathlib.Core.Bool.{Bool, true, _&&_}
+use mathlib.Core.Bool.{Bool, true, cond, _&&_}
 use mathlib.Core.List.{List}
 use lib.Dec.{eqb, ltb}
 use Rattle.boxes.specs.Boxes.{allFree}
 use Rattle.boxes.specs.Sums.{sum, only}
 use Rattle.tables.specs.Tables.{entry, own, Sums}
 use Rattle.sheet.specs.Limits.{mostHeld, marksOk}
-use Rattle.sheet.specs.Record.{Record}
+use Rattle.sheet.specs.Record.{outs, eithers, Record, Table, kept, outside-counts, either-counts}
 use Rattle.sheet.specs.declared.Sheet.{Sheet}
+use Rattle.sheet.specs.declared.Standing.{Standing}
+use Rattle.sheet.specs.declared.Standing.the-variants.{In, Out, Either}
 
--- a class table: each outside count is the number of the box's combinations outside the class, a single combination having 0 or 1
-pub record ClassSound (m : ℕ) (t : List ℕ) : Type 0 where
-  pub sums : Sums m (entry t)
-  pub ones : (c : ℕ) → c < 2 ^ m → own m t c ≤ 1
+-- the own number of a combination in a table
+abbrev pub ownIn : Table → Sheet → ℕ → ℕ
+ownIn t s c = own (s .marks) (kept t s) c
 
--- a time table: each entry is the sum over the box's combinations, and the all-free box holds at most 4,000,000,000
-pub record TimesSound (m : ℕ) (t : List ℕ) : Type 0 where
-  pub sums : Sums m (entry t)
-  pub most : entry t (allFree m) ≤ mostHeld
+-- Own numbers o and e, of the outside and the either counts, tell one of the three standings if they are (0, 0), (1, 0) or (0, 1): if they add up to
+-- at most 1.
 
--- the class that the counts tell: the combinations whose own count is 0
-abbrev pub classOf : ℕ → List ℕ → ℕ → Bool
-classOf m t c = ltb c (2 ^ m) && eqb (own m t c) 0
+-- they are those of this standing
+abbrev pub tells : Standing → ℕ → ℕ → Bool
+tells s o e = eqb o (outs s) && eqb e (eithers s)
 
--- what the tables tell, whether sound or not
+-- the standing that they tell
+abbrev pub toldBy : ℕ → ℕ → Standing
+toldBy o e = cond (eqb o 0) (cond (eqb e 0) In Either) Out
+
+-- The class table, of both counts: each is the number of the box's out combinations, and of its either combinations, a single combination having 0 or 1,
+-- and the own numbers of each combination tell one of the three standings.
+pub record ClassSound (m : ℕ) (outside either : List ℕ) : Type 0 where
+  pub outsides : Sums m (entry outside)
+  pub eithers : Sums m (entry either)
+  pub tells : (c : ℕ) → c < 2 ^ m → own m outside c + own m either c ≤ 1
+
+-- an either combination holds nothing
+abbrev pub Apart : ℕ → (outside either held : List ℕ) → Type 0
+Apart m outside either held = (c : ℕ) → c < 2 ^ m → tells Either (own m outside c) (own m either c) ≡ true → own m held c ≡ 0
+
+-- the time table: each entry is the sum over the box's combinations, the all-free box holds at most 4,000,000,000, and an either combination nothing
+pub record TimesSound (m : ℕ) (outside either held : List ℕ) : Type 0 where
+  pub sums : Sums m (entry held)
+  pub most : entry held (allFree m) ≤ mostHeld
+  pub apart : Apart m outside either held
+
+-- what the tables tell, whether sound or not: a number that is no combination is out
 abbrev pub recordOf : Sheet → Record
-recordOf s = record { marks = s .marks; class = classOf (s .marks) (s .outside); times = own (s .marks) (s .held) }
+recordOf s = record {
+  marks = s .marks;
+  standing = λ c. cond (ltb c (2 ^ s .marks)) (toldBy (ownIn outside-counts s c) (ownIn either-counts s c)) Out;
+  times = own (s .marks) (s .held);
+}
 
 -- fit for a call that reads the class: 1 to `most` marks, and a sound class table
 pub record ClassReady (most : ℕ) (s : Sheet) : Type 0 where
   pub marks : marksOk most (s .marks) ≡ true
-  pub class : ClassSound (s .marks) (s .outside)
+  pub class : ClassSound (s .marks) (s .outside) (s .either)
 
 -- fit for a call that reads the times as well
 pub record Ready (most : ℕ) (s : Sheet) : Type 0 where
   pub marks : marksOk most (s .marks) ≡ true
-  pub class : ClassSound (s .marks) (s .outside)
-  pub times : TimesSound (s .marks) (s .held)
+  pub class : ClassSound (s .marks) (s .outside) (s .either)
+  pub times : TimesSound (s .marks) (s .outside) (s .either) (s .held)
 
 -- how many combinations are in the class
 abbrev pub sizeOf : ℕ → (ℕ → Bool) → ℕ

@@ -1,15 +1,16 @@
-// The sheet: marks, an outside count and held seconds for each box, and the calls that open and change it. Every call takes any numbers
+// The sheet: marks; for each box an outside count, an either count and held seconds; and the calls that open and change it. Every call takes any numbers
 // and any sheet, spoiled ones included, and answers by a number of 01's table.
 ghost use mathlib.Core.Path.{_≡_};
 ghost use Prim.Native.Nat.{_≤_};
 ghost use Rattle.ground.specs.Decides.{Decides};
 ghost use Rattle.tables.specs.Tables.{entry, afresh};
 ghost use Rattle.sheet.specs.Limits.{mostMarks, entries, mostHeld, mostAmount};
-ghost use Rattle.sheet.specs.Record.{sheetFrom, sheetOf, opened};
+ghost use Rattle.sheet.specs.Record.{sheetFrom, sheetOf, opened, inClass};
 ghost use Rattle.sheet.specs.Calls.{openOf, movedSheet, didOf, ClassSize};
 ghost use Rattle.sheet.specs.Parts.{Accepted, Addable};
-ghost use Rattle.sheet.specs.Sound.{ClassReady, Ready, classOf, sizeOf};
-ghost use Rattle.sheet.specs.declared.Call.the-variants.{Enter, Leave, Receive, Withdraw};
+ghost use Rattle.sheet.specs.Sound.{ClassReady, Ready, recordOf, sizeOf};
+ghost use Rattle.sheet.specs.declared.Call.the-variants.{Change, Receive, Withdraw};
+ghost use Rattle.sheet.specs.declared.Standing.the-variants.{In, Out, Either};
 
 mod moves;
 mod numbers;
@@ -23,13 +24,20 @@ use tables::Shift;
 pub struct Sheet {
     pub marks: usize,
     pub outside: [u32; Sheet::ENTRIES],
+    pub either: [u32; Sheet::ENTRIES],
     pub held: [u32; Sheet::ENTRIES],
+}
+
+// How a combination stands to the class. Lines must contain those that are in, may not contain those that are out, and may contain those that are either.
+pub enum Standing {
+    In,
+    Out,
+    Either,
 }
 
 // A call that changes a sheet, with any numbers.
 pub enum Call {
-    Enter(usize),
-    Leave(usize),
+    Change(Standing, usize),
     Receive(usize, u64),
     Withdraw(usize, u64),
 }
@@ -38,6 +46,7 @@ pub enum Call {
 pub struct Move {
     pub at: usize,
     pub outside: Shift,
+    pub either: Shift,
     pub held: Shift,
 }
 
@@ -80,16 +89,18 @@ impl Sheet {
         ensures { λ r. do ⌜ (← ⟦Sheet::MOST_AMOUNT⟧ .entry) ≡ mostAmount ⌝ }
     {}
 
-    // The sheet worked out afresh from what each combination adds to the outside counts, and the seconds that it holds.
-    pub fn afresh(m: usize, outs: &[u32], times: &[u32]) -> Sheet
-        requires { ⌜ (m ≤ mostMarks) × Addable m (now outs) × Addable m (now times) ⌝ }
-        ensures { λ r. ⌜ r ≡ sheetFrom entries m (entry (now (outs .entry))) (entry (now (times .entry))) ⌝ }
+    // The sheet worked out afresh from what each combination adds to the outside counts and to the either counts, and the seconds that it holds.
+    pub fn afresh(m: usize, outs: &[u32], eithers: &[u32], times: &[u32]) -> Sheet
+        requires { ⌜ (m ≤ mostMarks) × Addable m (now outs) × Addable m (now eithers) × Addable m (now times) ⌝ }
+        ensures { λ r. ⌜ r ≡ sheetFrom entries m (entry (now (outs .entry))) (entry (now (eithers .entry))) (entry (now (times .entry))) ⌝ }
     {
         let outside = table(m, outs);
+        let either = table(m, eithers);
         let held = table(m, times);
         Sheet {
             marks: m,
             outside,
+            either,
             held,
         }
     }
@@ -101,10 +112,10 @@ impl Sheet {
     {
         let ones = [1u32; 32];
         let none = [0u32; 32];
-        Sheet::afresh(m, &ones, &none)
+        Sheet::afresh(m, &ones, &none, &none)
     }
 
-    // A sheet of so many marks, with every combination outside and nothing held.
+    // A sheet of so many marks, with every combination out and nothing held.
     pub fn open(marks: usize) -> Answer
         ensures { λ r. ⌜ r ≡ openOf mostMarks entries marks ⌝ }
     {
@@ -130,12 +141,16 @@ impl Sheet {
         let mut outside = self.outside;
         let by = v.outside;
         tables::move_at(m, c, by, &mut outside);
+        let mut either = self.either;
+        let more = v.either;
+        tables::move_at(m, c, more, &mut either);
         let mut held = self.held;
         let seconds = v.held;
         tables::move_at(m, c, seconds, &mut held);
         Sheet {
             marks: m,
             outside,
+            either,
             held,
         }
     }
@@ -146,8 +161,9 @@ impl Sheet {
     {
         let m = self.marks;
         let outside = self.outside;
+        let either = self.either;
         let held = self.held;
-        let number = numbers::of_call(m, &outside, &held, call);
+        let number = numbers::of_call(m, &outside, &either, &held, call);
         if number != 0 {
             return Answer {
                 number,
@@ -156,22 +172,29 @@ impl Sheet {
         }
         Answer {
             number: 0,
-            sheet: self.moved(moves::of_call(call)),
+            sheet: self.moved(moves::of_call(m, &outside, &either, call)),
         }
     }
 
     // Into the class.
     pub fn enter(self, c: usize) -> Answer
-        ensures { λ r. ⌜ r ≡ didOf mostMarks self (Enter c) ⌝ }
+        ensures { λ r. ⌜ r ≡ didOf mostMarks self (Change In c) ⌝ }
     {
-        self.did(Call::Enter(c))
+        self.did(Call::Change(Standing::In, c))
     }
 
     // Out of the class.
     pub fn leave(self, c: usize) -> Answer
-        ensures { λ r. ⌜ r ≡ didOf mostMarks self (Leave c) ⌝ }
+        ensures { λ r. ⌜ r ≡ didOf mostMarks self (Change Out c) ⌝ }
     {
-        self.did(Call::Leave(c))
+        self.did(Call::Change(Standing::Out, c))
+    }
+
+    // Neither in the class nor out of it: no can could have the combination.
+    pub fn make_either(self, c: usize) -> Answer
+        ensures { λ r. ⌜ r ≡ didOf mostMarks self (Change Either c) ⌝ }
+    {
+        self.did(Call::Change(Standing::Either, c))
     }
 
     // A receipt of d seconds.
@@ -194,7 +217,8 @@ impl Sheet {
     {
         let m = self.marks;
         let outside = self.outside;
-        numbers::marks_ok(m) && soundness::class_sound(m, &outside)
+        let either = self.either;
+        numbers::marks_ok(m) && soundness::class_sound(m, &outside, &either)
     }
 
     // Whether a call that reads the class and the times can be answered.
@@ -202,18 +226,20 @@ impl Sheet {
         ensures { λ r. ⌜ Decides r (Ready mostMarks self) ⌝ }
     {
         let m = self.marks;
+        let outside = self.outside;
+        let either = self.either;
         let held = self.held;
-        self.class_ready() && soundness::times_sound(m, &held)
+        self.class_ready() && soundness::times_sound(m, &outside, &either, &held)
     }
 
     // How many combinations are in the class, of a sheet whose class table is sound.
     pub fn size_sound(self) -> u64
         requires { ⌜ ClassReady mostMarks self ⌝ }
-        ensures { λ r. ⌜ r ≡ sizeOf (self .marks) (classOf (self .marks) (self .outside)) ⌝ }
+        ensures { λ r. ⌜ r ≡ sizeOf (self .marks) (inClass (recordOf self)) ⌝ }
     {
         let m = self.marks;
-        let all = self.outside[boxes::power3(m) - 1];
-        (boxes::power2(m) as u64) - (all as u64)
+        let all = boxes::power3(m) - 1;
+        (boxes::power2(m) as u64) - (self.outside[all] as u64) - (self.either[all] as u64)
     }
 
     // How many combinations are in the class.

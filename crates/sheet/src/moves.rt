@@ -1,20 +1,50 @@
 // The moves that calls come to.
 ghost use mathlib.Core.Path.{_≡_};
-ghost use Prim.Native.Nat.{_<_, _^_};
-ghost use Rattle.sheet.specs.Calls.{classShift, amountShift, classMove, amountMove, moveOf};
+ghost use Prim.Native.Nat.{ℕ, _<_, _≤_, _^_};
+ghost use mathlib.Core.List.{List};
+ghost use lib.ListN.{length};
+ghost use Rattle.sheet.specs.Limits.{mostMarks, entries};
+ghost use Rattle.sheet.specs.Record.{outs, eithers, sheetWith};
+ghost use Rattle.sheet.specs.Calls.{between, amountShift, changeMove, amountMove, moveOf};
 ghost use Rattle.sheet.specs.Parts.{SmallAmount};
 use crate::Call;
 use crate::Move;
+use crate::Standing;
 use tables::Shift;
 
-// The outside counts, into the class or out of it.
-pub fn class_shift(into: bool) -> Shift
-    ensures { λ r. ⌜ r ≡ classShift into ⌝ }
+// What a combination of a standing adds to the outside counts.
+pub fn outs(s: Standing) -> u32
+    ensures { λ r. ⌜ r ≡ outs s ⌝ }
 {
-    if into {
-        return Shift::Down(1);
+    match s {
+        Standing::In => 0,
+        Standing::Out => 1,
+        Standing::Either => 0,
     }
-    Shift::Up(1)
+}
+
+// What it adds to the either counts.
+pub fn eithers(s: Standing) -> u32
+    ensures { λ r. ⌜ r ≡ eithers s ⌝ }
+{
+    match s {
+        Standing::In => 0,
+        Standing::Out => 0,
+        Standing::Either => 1,
+    }
+}
+
+// A kept number, from x to y.
+pub fn between(x: u32, y: u32) -> Shift
+    ensures { λ r. ⌜ r ≡ between x y ⌝ }
+{
+    if x < y {
+        return Shift::Up(y - x);
+    }
+    if y < x {
+        return Shift::Down(x - y);
+    }
+    Shift::Stays
 }
 
 // The held seconds, more or less.
@@ -28,13 +58,14 @@ pub fn amount_shift(more: bool, d: u64) -> Shift
     Shift::Down(d as u32)
 }
 
-// A change of standing.
-fn class_move(into: bool, c: usize) -> Move
-    ensures { λ r. ⌜ r ≡ classMove into c ⌝ }
+// A change of standing, from own counts o and e.
+fn change_move(o: u32, e: u32, to: Standing, c: usize) -> Move
+    ensures { λ r. ⌜ r ≡ changeMove o e to c ⌝ }
 {
     Move {
         at: c,
-        outside: class_shift(into),
+        outside: between(o, outs(to)),
+        either: between(e, eithers(to)),
         held: Shift::Stays,
     }
 }
@@ -47,18 +78,22 @@ fn amount_move(more: bool, c: usize, d: u64) -> Move
     Move {
         at: c,
         outside: Shift::Stays,
+        either: Shift::Stays,
         held: amount_shift(more, d),
     }
 }
 
-// The move of a call.
-pub fn of_call(call: Call) -> Move
+// The move of a call on a sheet of m marks with these counts.
+pub fn of_call(m: usize, outside: &[u32], either: &[u32], call: Call) -> Move
+    requires { ⌜ (m ≤ mostMarks) × (entries ≤ length (now outside)) × (entries ≤ length (now either)) ⌝ }
     requires { ⌜ SmallAmount call ⌝ }
-    ensures { λ r. ⌜ r ≡ moveOf call ⌝ }
+    ensures { λ r. ⌜ ((held : List ℕ) → r ≡ moveOf (sheetWith m (now (outside .entry)) (now (either .entry)) held) call) ⌝ }
 {
     match call {
-        Call::Enter(c) => class_move(true, c),
-        Call::Leave(c) => class_move(false, c),
+        Call::Change(to, c) => {
+            let b = boxes::single(m, c);
+            change_move(outside[b], either[b], to, c)
+        }
         Call::Receive(c, d) => amount_move(true, c, d),
         Call::Withdraw(c, d) => amount_move(false, c, d),
     }

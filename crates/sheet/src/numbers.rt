@@ -1,15 +1,19 @@
 // The numbers of the calls that change a sheet, in 01's order of tests.
 ghost use mathlib.Core.Path.{_≡_};
-ghost use mathlib.Core.Bool.{cond};
-ghost use Prim.Native.Nat.{_≤_};
-ghost use lib.Dec.{eqb};
+ghost use mathlib.Core.Bool.{cond, _&&_};
+ghost use lib.Dec.{ltb};
+ghost use mathlib.Core.List.{List};
+ghost use Prim.Native.Nat.{ℕ, _≤_, _<_, _^_};
 ghost use lib.ListN.{length};
 ghost use Rattle.sheet.specs.Limits.{mostMarks, entries, mostHeld, marksOk, amountOk};
 ghost use Rattle.sheet.specs.Parts.{mostKept};
-ghost use Rattle.sheet.specs.Calls.{standing, changeNo, amountNo, numberOn};
-ghost use Rattle.sheet.specs.Record.{sheetWith};
+ghost use Rattle.sheet.specs.Sound.{tells};
+ghost use Rattle.sheet.specs.Calls.{countsFit, changeNo, amountNo, numberOn};
+ghost use Rattle.sheet.specs.Record.{isEither, sheetWith};
+ghost use Rattle.sheet.specs.declared.Standing.the-variants.{Either};
 use crate::Call;
 use crate::Sheet;
+use crate::Standing;
 use crate::moves;
 
 // Whether a sheet may have m marks.
@@ -26,20 +30,53 @@ fn amount_ok(d: u64) -> bool
     1 <= d && d <= Sheet::MOST_AMOUNT
 }
 
-// Whether a combination whose own count is x stands in the class, or out of it, already.
-fn stands(x: u32, into: bool) -> bool
-    ensures { λ r. ⌜ r ≡ eqb x (standing into) ⌝ }
+// Whether own counts o and e are those of a standing.
+pub fn tells(s: Standing, o: u32, e: u32) -> bool
+    ensures { λ r. ⌜ r ≡ tells s o e ⌝ }
 {
-    if into {
-        return x == 0;
-    }
-    x == 1
+    o == moves::outs(s) && e == moves::eithers(s)
 }
 
-// The number of a class change, into the class or out of it.
-fn change_number(m: usize, c: usize, t: &[u32], into: bool) -> u64
-    requires { ⌜ entries ≤ length (now t) ⌝ }
-    ensures { λ r. ⌜ r ≡ changeNo mostMarks into m (now (t .entry)) c ⌝ }
+// Whether a combination that holds so many seconds must not come to stand so: an either combination holds nothing.
+fn holds_back(to: Standing, seconds: u32) -> bool
+    ensures { λ r. ⌜ r ≡ (isEither to && ltb 0 seconds) ⌝ }
+{
+    match to {
+        Standing::In => false,
+        Standing::Out => false,
+        Standing::Either => 0 < seconds,
+    }
+}
+
+// Whether a receipt comes to an either combination.
+fn to_either(more: bool, o: u32, e: u32) -> bool
+    ensures { λ r. ⌜ r ≡ (more && tells Either o e) ⌝ }
+{
+    more && tells(Standing::Either, o, e)
+}
+
+// Whether both counts of each touched box fit after a change to a standing, from own counts o and e.
+fn counts_fit(m: usize, c: usize, to: Standing, outside: &[u32], either: &[u32]) -> bool
+    requires { ⌜ (m ≤ mostMarks) × (c < 2 ^ m) × (entries ≤ length (now outside)) × (entries ≤ length (now either)) ⌝ }
+    ensures { λ r. ⌜ ((held : List ℕ) → r ≡ countsFit to (sheetWith m (now (outside .entry)) (now (either .entry)) held) c) ⌝ }
+{
+    let b = boxes::single(m, c);
+    let out = moves::between(outside[b], moves::outs(to));
+    let other = moves::between(either[b], moves::eithers(to));
+    tables::fits_at(m, c, out, outside, 0, 1) && tables::fits_at(m, c, other, either, 0, 1)
+}
+
+// The number of a class change.
+fn change_number(
+    m: usize,
+    c: usize,
+    outside: &[u32],
+    either: &[u32],
+    held: &[u32],
+    to: Standing,
+) -> u64
+    requires { ⌜ (entries ≤ length (now outside)) × (entries ≤ length (now either)) × (entries ≤ length (now held)) ⌝ }
+    ensures { λ r. ⌜ r ≡ changeNo mostMarks to (sheetWith m (now (outside .entry)) (now (either .entry)) (now (held .entry))) c ⌝ }
 {
     if !marks_ok(m) {
         return 7;
@@ -47,14 +84,19 @@ fn change_number(m: usize, c: usize, t: &[u32], into: bool) -> u64
     if boxes::power2(m) <= c {
         return 2;
     }
-    let own = t[boxes::single(m, c)];
-    if 1 < own {
+    let b = boxes::single(m, c);
+    let o = outside[b];
+    let e = either[b];
+    if 1 < ground::wide(o) + ground::wide(e) {
         return 7;
     }
-    if stands(own, into) {
+    if tells(to, o, e) {
         return 3;
     }
-    if !tables::fits_at(m, c, moves::class_shift(into), t, 0, 1) {
+    if holds_back(to, held[b]) {
+        return 12;
+    }
+    if !counts_fit(m, c, to, outside, either) {
         return 7;
     }
     0
@@ -71,9 +113,17 @@ fn most_after(more: bool) -> u64
 }
 
 // The number of a receipt or a withdrawal.
-fn amount_number(m: usize, c: usize, t: &[u32], d: u64, more: bool) -> u64
-    requires { ⌜ entries ≤ length (now t) ⌝ }
-    ensures { λ r. ⌜ r ≡ amountNo mostMarks more m (now (t .entry)) c d ⌝ }
+fn amount_number(
+    m: usize,
+    c: usize,
+    outside: &[u32],
+    either: &[u32],
+    held: &[u32],
+    d: u64,
+    more: bool,
+) -> u64
+    requires { ⌜ (entries ≤ length (now outside)) × (entries ≤ length (now either)) × (entries ≤ length (now held)) ⌝ }
+    ensures { λ r. ⌜ r ≡ amountNo mostMarks more (sheetWith m (now (outside .entry)) (now (either .entry)) (now (held .entry))) c d ⌝ }
 {
     if !marks_ok(m) {
         return 7;
@@ -84,7 +134,18 @@ fn amount_number(m: usize, c: usize, t: &[u32], d: u64, more: bool) -> u64
     if !amount_ok(d) {
         return 4;
     }
-    if tables::fits_at(m, c, moves::amount_shift(more, d), t, most_after(more), 0) {
+    let b = boxes::single(m, c);
+    if to_either(more, outside[b], either[b]) {
+        return 12;
+    }
+    if tables::fits_at(
+        m,
+        c,
+        moves::amount_shift(more, d),
+        held,
+        most_after(more),
+        0,
+    ) {
         return 0;
     }
     if more {
@@ -94,14 +155,13 @@ fn amount_number(m: usize, c: usize, t: &[u32], d: u64, more: bool) -> u64
 }
 
 // The number of a call on a sheet of m marks with these tables.
-pub fn of_call(m: usize, outside: &[u32], held: &[u32], call: Call) -> u64
-    requires { ⌜ (entries ≤ length (now outside)) × (entries ≤ length (now held)) ⌝ }
-    ensures { λ r. ⌜ r ≡ numberOn mostMarks (sheetWith m (now (outside .entry)) (now (held .entry))) call ⌝ }
+pub fn of_call(m: usize, outside: &[u32], either: &[u32], held: &[u32], call: Call) -> u64
+    requires { ⌜ (entries ≤ length (now outside)) × (entries ≤ length (now either)) × (entries ≤ length (now held)) ⌝ }
+    ensures { λ r. ⌜ r ≡ numberOn mostMarks (sheetWith m (now (outside .entry)) (now (either .entry)) (now (held .entry))) call ⌝ }
 {
     match call {
-        Call::Enter(c) => change_number(m, c, outside, true),
-        Call::Leave(c) => change_number(m, c, outside, false),
-        Call::Receive(c, d) => amount_number(m, c, held, d, true),
-        Call::Withdraw(c, d) => amount_number(m, c, held, d, false),
+        Call::Change(to, c) => change_number(m, c, outside, either, held, to),
+        Call::Receive(c, d) => amount_number(m, c, outside, either, held, d, true),
+        Call::Withdraw(c, d) => amount_number(m, c, outside, either, held, d, false),
     }
 }

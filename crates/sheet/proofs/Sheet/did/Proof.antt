@@ -1,4 +1,5 @@
 -- A refusal leaves the sheet; an accepted call makes its move, for which there is room.
+use Prim.Native.Nat.{_≤_}
 use mathlib.Core.Path.{_≡_, sym, _∙_, ap, subst}
 use native.Mathlib.Omega.{arith}
 use lib.ListN.{length}
@@ -8,51 +9,51 @@ use Rattle.sheet.specs.Limits.{mostMarks, entries}
 use Rattle.sheet.specs.Calls.{movedSheet, moveOf, numberOn}
 use Rattle.sheet.specs.Parts.{Accepted}
 use Rattle.sheet.proofs.Answers.{refused, done}
-use Rattle.sheet.proofs.Tests.{accepts, accepts-small}
+use Rattle.sheet.proofs.Tests.{marks-most, accepts, accepts-small}
 use borrow.Author.Needs.{needs}
 use Rattle.sheet.proofs.Sheet.did.Statement.{statement}
 use Rattle.sheet.proofs.Sheet.did.Tie as tie
 
-long : (c : tie.Start) → (length (c .args .self .outside) ≡ entries) × (length (c .args .self .held) ≡ entries)
-long c = (search needs, search needs)
+abbrev start : tie.After-of-call → tie.Start
+start c = c .before .before .before .before .before .before .before
 
-passed : (c : tie.Else1) → let a = c .before .before .before .before .before .before .args in numberOn mostMarks (a .self) (a .call) ≡ 0
+long : (c : tie.Start) → let s = c .args .self in (entries ≤ length (s .outside)) × (entries ≤ length (s .either)) × (entries ≤ length (s .held))
+long c =
+    let o : length (c .args .self .outside) ≡ entries = search needs in
+    let e : length (c .args .self .either) ≡ entries = search needs in
+    let h : length (c .args .self .held) ≡ entries = search needs in
+    (omega arith, omega arith, omega arith)
+
+passed : (c : tie.Else1) → let a = start (c .before) .args in numberOn mostMarks (a .self) (a .call) ≡ 0
 passed c = sym (c .before .of-call .ensures) ∙ c .if1 .left
 
-slice-aggregate-of-call : tie.Need-slice-aggregate-of-call
-slice-aggregate-of-call c = search needs
-
-slice-aggregate-of-call-2 : tie.Need-slice-aggregate-of-call-2
-slice-aggregate-of-call-2 c = search needs
-
 of-call-requires : tie.Need-of-call-requires
-of-call-requires c κs = (omega (arith, long (c .before .before .before .before) .0), omega (arith, long (c .before .before .before .before) .1))
+of-call-requires c κs = long (c .before .before .before .before .before .before)
 
 returns : tie.Need-returns
 returns c = refused _ _ _ _ (c .before .of-call .ensures) (c .if1 .taken)
 
 of-call-requires-2 : tie.Need-of-call-requires-2
-of-call-requires-2 c κs = let a = c .before .before .before .before .before .before .args in accepts-small (a .self) (a .call) (passed c)
+of-call-requires-2 c κs =
+    let e = c .before .before in
+    let s = start (e .before) in
+    let l = long s in
+    ((marks-most mostMarks _ (accepts (s .args .self) (s .args .call) (passed e) .marks), l .0, l .1), accepts-small (s .args .self) (s .args .call) (passed e))
 
 moved-requires : tie.Need-moved-requires
 moved-requires c κs =
-    let a = c .before .before .before .before .before .before .before .args in
-    subst (Accepted (a .self)) (sym (c .of-call2 .ensures)) (accepts (a .self) (a .call) (passed (c .before)))
+    let e = c .before .before .before in
+    let a = start (e .before) .args in
+    subst (Accepted (a .self)) (sym (c .of-call2 .ensures (a .self .held))) (accepts (a .self) (a .call) (passed e))
 
 returns-2 : tie.Need-returns-2
 returns-2 c =
-    let a = c .before .before .before .before .before .before .before .before .args in
-    ap (λ (s : Sheet). record { number = 0; sheet = s }) (c .moved .ensures ∙ ap (λ (v : Move). movedSheet v (a .self)) (c .before .of-call2 .ensures))
-    ∙ done _ (a .self) (movedSheet (moveOf (a .call)) (a .self)) (passed (c .before .before))
+    let e = c .before .before .before .before in
+    let a = start (e .before) .args in
+    ap (λ (s : Sheet). record { number = 0; sheet = s }) (c .moved .ensures ∙ ap (λ (v : Move). movedSheet v (a .self)) (c .before .of-call2 .ensures (a .self .held)))
+    ∙ done _ (a .self) (movedSheet (moveOf (a .self) (a .call)) (a .self)) (passed e)
 
 pub did-spec : {M : Type 1} → statement M
-did-spec =
-    tie.close
-    (tie.spec
-    slice-aggregate-of-call
-    slice-aggregate-of-call-2
-    of-call-requires
-    returns
-    of-call-requires-2
-    moved-requires
-    returns-2)
+did-spec = tie.close (tie.spec
+    (λ c. search needs) (λ c. search needs) (λ c. search needs) of-call-requires returns (λ c. search needs) (λ c. search needs) of-call-requires-2
+    moved-requires returns-2)

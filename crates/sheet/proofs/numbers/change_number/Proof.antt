@@ -1,88 +1,138 @@
 -- Each return is a row of the order of tests.
-use Prim.Native.Nat.{ℕ, _^_, _≤_, _<_}
-use mathlib.Core.Bool.{true}
-use mathlib.Core.Path.{_≡_, sym, _∙_, ap}
+use Prim.Native.Nat.{ℕ, _+_, _^_, _≤_, _<_}
+use mathlib.Core.Bool.{Bool, true, _&&_}
+use mathlib.Core.List.{List}
+use mathlib.Core.Path.{_≡_, sym, _∙_, ap, ap₂}
 use native.Mathlib.Omega.{arith}
-use lib.Dec.{eqb}
+use lib.Dec.{ltb}
 use borrow.Author.Tests.{not-true, not-false}
 use borrow.Author.Needs.{needs}
-use Rattle.sheet.proofs.Tests.{marks-most, boxes-fit, change-7, change-2, change-own, change-3, change-count, change-0, class-bounds}
-use Rattle.tables.specs.declared.Shift.{Shift}
-use Rattle.tables.proofs.Touched.{touched-ext}
-use Rattle.sheet.specs.Calls.{standing, fitsClass}
+use Rattle.tables.specs.Tables.{entry, own}
 use Rattle.sheet.specs.Limits.{marksOk, mostMarks}
-use Rattle.tables.specs.Tables.{entry, own, touched}
-use Rattle.tables.specs.Parts.{fitsMoved}
+use Rattle.sheet.specs.Record.{isEither, sheetWith}
+use Rattle.sheet.specs.Sound.{tells}
+use Rattle.sheet.specs.Calls.{countsFit}
+use Rattle.sheet.specs.declared.Sheet.{Sheet}
+use Rattle.sheet.proofs.Tests.{marks-most, boxes-fit, change-7, change-2, change-own, change-3, change-12, change-count, change-0}
 use Rattle.sheet.proofs.numbers.change_number.Statement.{statement}
 use Rattle.sheet.proofs.numbers.change_number.Tie as tie
 
-marks : (c : tie.Else1) → marksOk mostMarks (c .before .before .before .args .m) ≡ true
+abbrev sheetIn : tie.Start → Sheet
+sheetIn s = sheetWith (s .args .m) (s .args .outside .now) (s .args .either .now) (s .args .held .now)
+
+abbrev start : tie.Else1 → tie.Start
+start c = c .before .before .before .before .before
+
+marks : (c : tie.Else1) → marksOk mostMarks (start c .args .m) ≡ true
 marks c = sym (c .before .marks-ok .ensures) ∙ not-false _ (c .if1 .left)
 
-low : (c : tie.Else2) → c .before .before .before .before .before .args .c < 2 ^ c .before .before .before .before .before .args .m
+low : (c : tie.Else2) → start (c .before .before) .args .c < 2 ^ start (c .before .before) .args .m
 low c = omega (arith, c .before .power2 .ensures .0)
 
-own-is : (c : tie.After-shared-slice-known2)
-    → let a = c .before .before .before .before .before .before .before .args in entry (a .t .now) (c .before .single .result) ≡ own (a .m) (a .t .now) (a .c)
-own-is c = ap (entry (c .before .before .before .before .before .before .before .args .t .now)) (c .before .single .ensures .0)
+-- where the own numbers are read
+abbrev first : tie.After-single → tie.Else1
+first c = c .before .before .before
 
-one : (c : tie.Else3) → let a = c .before .before .before .before .before .before .before .before .args in own (a .m) (a .t .now) (a .c) ≤ 1
-one c = omega (arith, own-is (c .before))
+own-is : (c : tie.After-single) (t : List ℕ) → entry t (c .single .result) ≡ own (start (first c) .args .m) t (start (first c) .args .c)
+own-is c t = ap (entry t) (c .single .ensures .0)
 
-stood : (c : tie.After-stands)
-    → let a = c .before .before .before .before .before .before .before .before .before .args in eqb (own (a .m) (a .t .now) (a .c)) (standing (a .into)) ≡ c .stands .result
-stood c = ap (λ (x : ℕ). eqb x (standing (c .before .before .before .before .before .before .before .before .before .args .into))) (sym (own-is (c .before .before))) ∙ sym (c .stands .ensures)
+abbrev read : tie.After-wide2 → tie.After-single
+read c = c .before .before .before .before
+
+sum-is : (c : tie.After-wide2)
+    → let s = start (first (read c)) .args in
+    c .before .wide .result + c .wide2 .result ≡ own (s .m) (s .outside .now) (s .c) + own (s .m) (s .either .now) (s .c)
+sum-is c =
+    let s = start (first (read c)) .args in
+    omega (arith, c .before .wide .ensures .0, c .wide2 .ensures .0, own-is (read c) (s .outside .now), own-is (read c) (s .either .now))
+
+one : (c : tie.Else3) → let s = start (first (read (c .before))) .args in own (s .m) (s .outside .now) (s .c) + own (s .m) (s .either .now) (s .c) ≤ 1
+one c = omega (arith, sum-is (c .before))
+
+told : (c : tie.After-tells)
+    → let s = start (first (read (c .before .before))) .args in tells (s .to) (own (s .m) (s .outside .now) (s .c)) (own (s .m) (s .either .now) (s .c)) ≡ c .tells .result
+told c =
+    let r = read (c .before .before) in
+    let s = start (first r) .args in
+    sym (c .tells .ensures ∙ ap₂ (tells (s .to)) (own-is r (s .outside .now)) (own-is r (s .either .now)))
+
+held-back : (c : tie.After-holds-back)
+    → let s = start (first (read (c .before .before .before .before .before))) .args in (isEither (s .to) && ltb 0 (own (s .m) (s .held .now) (s .c))) ≡ c .holds-back .result
+held-back c =
+    let r = read (c .before .before .before .before .before) in
+    let s = start (first r) .args in
+    sym (c .holds-back .ensures ∙ ap (λ (x : ℕ). isEither (s .to) && ltb 0 x) (own-is r (s .held .now)))
 
 returns : tie.Need-returns
-returns c = sym (change-7 _ _ _ _ _ (sym (c .before .marks-ok .ensures) ∙ not-true _ (c .if1 .taken)))
+returns c = sym (change-7 _ _ _ _ (sym (c .before .marks-ok .ensures) ∙ not-true _ (c .if1 .taken)))
 
 power2-requires : tie.Need-power2-requires
 power2-requires c κs = omega (arith, marks-most mostMarks _ (marks c))
 
 returns-2 : tie.Need-returns-2
-returns-2 c = sym (change-2 _ _ _ _ _ (marks (c .before .before)) (omega (arith, c .before .power2 .ensures .0)))
+returns-2 c = sym (change-2 _ _ (sheetIn (start (c .before .before))) _ (marks (c .before .before)) (omega (arith, c .before .power2 .ensures .0)))
 
 single-requires : tie.Need-single-requires
 single-requires c κs = omega (arith, marks-most mostMarks _ (marks (c .before .before)))
 
-mul-own : tie.Need-mul-own
-mul-own c = omega (arith, boxes-fit _ (marks (c .before .before .before)), c .single .ensures .1)
+mul-o : tie.Need-mul-o
+mul-o c = omega (arith, boxes-fit _ (marks (first c)), c .single .ensures .1)
 
-shared-slice-read-own : tie.Need-shared-slice-read-own
-shared-slice-read-own c = omega (arith, boxes-fit _ (marks (c .before .before .before .before)), c .before .single .ensures .1)
+shared-slice-read-o : tie.Need-shared-slice-read-o
+shared-slice-read-o c = let r = c .before in omega (arith, boxes-fit _ (marks (first r)), r .single .ensures .1, start (first r) .pre .0)
+
+shared-slice-read-e : tie.Need-shared-slice-read-e
+shared-slice-read-e c = let r = c .before .before in omega (arith, boxes-fit _ (marks (first r)), r .single .ensures .1, start (first r) .pre .1)
 
 returns-3 : tie.Need-returns-3
-returns-3 c = sym (change-own _ _ _ _ _ (marks (c .before .before .before .before .before)) (low (c .before .before .before)) (omega (arith, own-is (c .before))))
+returns-3 c = let r = read (c .before) in sym (change-own _ _ (sheetIn (start (first r))) _ (marks (first r)) (low (r .before)) (omega (arith, sum-is (c .before))))
 
 returns-4 : tie.Need-returns-4
-returns-4 c = sym (change-3 _ _ _ _ _ (marks (c .before .before .before .before .before .before .before)) (low (c .before .before .before .before .before)) (one (c .before .before)) (stood (c .before) ∙ c .if4 .taken))
+returns-4 c =
+    let e = c .before .before in
+    let r = read (e .before) in
+    sym (change-3 _ _ (sheetIn (start (first r))) _ (marks (first r)) (low (r .before)) (one e) (told (c .before) ∙ c .if4 .taken))
 
-fits-at-requires : tie.Need-fits-at-requires
-fits-at-requires c κs =
-    let ok = marks (c .before .before .before .before .before .before .before .before) in (
-      record {
-        marks = omega (arith, marks-most mostMarks _ ok);
-        low = low (c .before .before .before .before .before .before);
-        long = omega (arith, boxes-fit _ ok, c .before .before .before .before .before .before .before .before .before .before .before .pre);
-      },
-      (omega arith, omega arith),
-    )
-
--- the touched counts, after the move
-judged : (c : tie.After-fits-at)
-    → let a = c .before .before .before .before .before .before .before .before .before .before .before .before .args in touched (a .m) (a .c) (fitsClass (a .into) (a .m) (a .t .now)) ≡ c .fits-at .result
-judged c =
-    let a = c .before .before .before .before .before .before .before .before .before .before .before .before .args in
-    sym (c .fits-at .ensures ∙ ap (λ (s : Shift). touched (a .m) (a .c) (fitsMoved (a .m) s (a .t .now) 0 1)) (c .before .class-shift .ensures)
-    ∙ touched-ext (a .m) (a .c) _ _ (λ b e. class-bounds (a .m) (a .into) (a .t .now) b))
+shared-slice-read-holds-back : tie.Need-shared-slice-read-holds-back
+shared-slice-read-holds-back c =
+    let r = read (c .before .before .before .before) in
+    omega (arith, boxes-fit _ (marks (first r)), r .single .ensures .1, start (first r) .pre .2)
 
 returns-5 : tie.Need-returns-5
-returns-5 c = sym (change-count _ _ _ _ _ (marks (c .before .before .before .before .before .before .before .before .before .before)) (low (c .before .before .before .before .before .before .before .before)) (one (c .before .before .before .before .before)) (stood (c .before .before .before .before) ∙ c .before .before .before .if4 .left) (judged (c .before) ∙ not-true _ (c .if5 .taken)))
+returns-5 c =
+    let o = c .before .before .before in
+    let e = o .before .before in
+    let r = read (e .before) in
+    sym (change-12 _ _ (sheetIn (start (first r))) _ (marks (first r)) (low (r .before)) (one e) (told (o .before) ∙ o .if4 .left) (held-back (c .before) ∙ c .if5 .taken))
+
+counts-fit-requires : tie.Need-counts-fit-requires
+counts-fit-requires c κs =
+    let r = read (c .before .before .before .before .before .before) in
+    (marks-most mostMarks _ (marks (first r)), low (r .before), start (first r) .pre .0, start (first r) .pre .1)
+
+judged : (c : tie.After-counts-fit) → let s = start (first (read (c .before .before .before .before .before .before .before))) in countsFit (s .args .to) (sheetIn s) (s .args .c) ≡ c .counts-fit .result
+judged c = let s = start (first (read (c .before .before .before .before .before .before .before))) in sym (c .counts-fit .ensures (s .args .held .now))
 
 returns-6 : tie.Need-returns-6
-returns-6 c = sym (change-0 _ _ _ _ _ (marks (c .before .before .before .before .before .before .before .before .before .before)) (low (c .before .before .before .before .before .before .before .before)) (one (c .before .before .before .before .before)) (stood (c .before .before .before .before) ∙ c .before .before .before .if4 .left) (judged (c .before) ∙ not-false _ (c .if5 .left)))
+returns-6 c =
+    let h = c .before .before in
+    let o = h .before .before .before in
+    let e = o .before .before in
+    let r = read (e .before) in
+    sym (change-count _ _ (sheetIn (start (first r))) _ (marks (first r)) (low (r .before)) (one e) (told (o .before) ∙ o .if4 .left) (held-back (h .before) ∙ h .if5 .left)
+    (judged (c .before) ∙ not-true _ (c .if6 .taken)))
+
+returns-7 : tie.Need-returns-7
+returns-7 c =
+    let h = c .before .before in
+    let o = h .before .before .before in
+    let e = o .before .before in
+    let r = read (e .before) in
+    sym (change-0 _ _ (sheetIn (start (first r))) _ (marks (first r)) (low (r .before)) (one e) (told (o .before) ∙ o .if4 .left) (held-back (h .before) ∙ h .if5 .left)
+    (judged (c .before) ∙ not-false _ (c .if6 .left)))
 
 pub change-number-spec : {M : Type 1} → statement M
 change-number-spec = tie.close (tie.spec
-    (λ c κs. search needs) returns power2-requires returns-2 single-requires mul-own shared-slice-read-own returns-3
-    (λ c κs. search needs) returns-4 (λ c κs. search needs) fits-at-requires returns-5 returns-6)
+    (λ c κs. search needs) returns power2-requires returns-2 single-requires mul-o shared-slice-read-o (λ c. mul-o (c .before)) shared-slice-read-e
+    (λ c κs. search needs) (λ c κs. search needs) (λ c. search needs) returns-3 (λ c κs. search needs) returns-4 (λ c. mul-o (read (c .before .before .before)))
+    shared-slice-read-holds-back (λ c κs. search needs) returns-5 counts-fit-requires returns-6 returns-7)
