@@ -1,7 +1,7 @@
 -- What the check answers of a sheet and a list: 7 as the list does, and then what is found for the class that the counts tell.
 use Prim.Native.Nat.{ℕ}
 use mathlib.Core.List.{List}
-use Rattle.sheet.specs.Record.{Record}
+use Rattle.sheet.specs.Record.{Record, inClass, notOut}
 use Rattle.sheet.specs.Sound.{ClassReady, recordOf}
 use Rattle.sheet.specs.declared.Sheet.{Sheet}
 use Rattle.checking.specs.declared.Finding.{Finding}
@@ -9,9 +9,9 @@ use Rattle.checking.specs.declared.Finding.the-variants.{Spoiled, Fittin
 use Rattle.checking.specs.declared.Verdict.{Verdict}
 use Rattle.checking.specs.Faults.{faultNumber, Judged}
 
--- a list against the class of a record
+-- a list against a record: it must cover the class, and may cover what is not out
 abbrev pub JudgedFor : Record → List ℕ → Finding → Type 0
-JudgedFor r l x = Judged (r .marks) (r .class) (r .class) l x
+JudgedFor r l x = Judged (r .marks) (inClass r) (notOut r) l x
 
 pub data Checked (most : ℕ) (s : Sheet) (l : List ℕ) : Finding → Type 0 where
   spoiled : (ClassReady most s → ⊥) → Checked most s l Spoiled

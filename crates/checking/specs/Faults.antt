@@ -1,5 +1,5 @@
 -- The faults of a list that should fit a class (02, Q-4), over the number of marks m. `need` has the combinations that a list must cover, `room` those
--- that it may cover: for a class both are the class.
+-- that it may cover: for a sheet those that are in, and those that are not out.
 use Prim.Native.Nat.{ℕ, _^_, _<_, _≤_}
 use mathlib.Core.Path.{_≡_}
 use mathlib.Core.Bool.{Bool, true, false}
@@ -21,7 +21,7 @@ NoBox m l i = 3 ^ m ≤ getD l i 0
 abbrev pub Overlaps : ℕ → List ℕ → ℕ → Type 0
 Overlaps m l i = (j : ℕ) × (j < i) × Joined m (getD l j 0) (getD l i 0)
 
--- a box that leaves the class: it contains a combination that has no room
+-- a box that leaves the class: it contains a combination that has no room, one that is out
 abbrev pub Leaves : ℕ → (ℕ → Bool) → List ℕ → ℕ → Type 0
 Leaves m room l i = (c : ℕ) × (contains m (getD l i 0) c ≡ true) × (room c ≡ false)
 

@@ -12,8 +12,8 @@ ghost use Rattle.checking.specs.Parts.{FirstIn, SetOf, United};
 use boxes;
 use sheet::Sheet;
 
-// The faults of a list, in the order in which they are looked for: a number that is no box, a box that overlaps an earlier one, a box that leaves the
-// class, a combination of the class that is not covered.
+// The faults of a list, in the order in which they are looked for: a number that is no box, a box that overlaps an earlier one, a box that contains an out
+// combination, a combination of the class that is not covered.
 pub enum Fault {
     NoBox,
     Overlap,
@@ -134,8 +134,9 @@ pub fn check_sound(sheet: Sheet, list: &[u8]) -> Finding
 {
     let m = sheet.marks;
     let outside = sheet.outside;
-    let class = listing::class_bits(m, &outside);
-    judged(m, class, class, list)
+    let either = sheet.either;
+    let told = listing::bits(m, &outside, &either);
+    judged(m, told.need, told.room, list)
 }
 
 // Whether the list fits the sheet's class, and else its first fault.

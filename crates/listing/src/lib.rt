@@ -3,31 +3,52 @@ ghost use mathlib.Core.Path.{_≡_};
 ghost use Prim.Native.Nat.{_^_, _<_, _≤_};
 ghost use lib.ListN.{length};
 ghost use Rattle.sheet.specs.Limits.{mostMarks, entries};
-ghost use Rattle.sheet.specs.Sound.{ClassReady, Ready, classOf, recordOf};
-ghost use Rattle.boxes.specs.Sums.{sum};
+ghost use Rattle.sheet.specs.Record.{inClass, sheetWith};
+ghost use Rattle.sheet.specs.Sound.{ClassReady, Ready, recordOf};
+ghost use mathlib.Core.Bool.{_&&_};
+ghost use lib.Dec.{eqb, ltb};
 ghost use Rattle.tables.specs.Tables.{own};
 ghost use Rattle.sets.specs.Sets.{has};
 ghost use Rattle.listing.specs.Listing.{taken, totalOf, Searched, Listed, Totalled};
+ghost use Rattle.listing.specs.Parts.{BitsOf};
 use boxes;
 use seek;
 use seek::Found;
 use sheet::Sheet;
 use sheet::Value;
 
-// The class that the counts tell, a bit for each combination.
-pub fn class_bits(m: usize, outside: &[u32]) -> u32
-    requires { ⌜ (m ≤ mostMarks) × (entries ≤ length (now outside)) ⌝ }
-    ensures { λ r. ⌜ (r < 2 ^ (2 ^ m)) × (has r ≡ classOf m (now (outside .entry))) ⌝ }
+// What the lines of a sheet must cover, its class, and what they may cover: a bit for each combination.
+pub struct Bits {
+    pub need: u32,
+    pub room: u32,
+}
+
+// The combinations whose own number in a table is 0.
+fn zeros(m: usize, t: &[u32]) -> u32
+    requires { ⌜ (m ≤ mostMarks) × (entries ≤ length (now t)) ⌝ }
+    ensures { λ r. ⌜ (r < 2 ^ (2 ^ m)) × (has r ≡ (λ c. ltb c (2 ^ m) && eqb (own m (now (t .entry)) c) 0)) ⌝ }
 {
     let n = boxes::power2(m);
-    let mut class: u32 = 0;
+    let mut set: u32 = 0;
     for c in 0..n {
         let b = boxes::single(m, c);
-        if outside[b] == 0 {
-            class = class | (1 << c);
+        if t[b] == 0 {
+            set = set | (1 << c);
         }
     }
-    class
+    set
+}
+
+// The sets that the counts tell: in are those with neither count, and those without an outside count are not out.
+pub fn bits(m: usize, outside: &[u32], either: &[u32]) -> Bits
+    requires { ⌜ (m ≤ mostMarks) × (entries ≤ length (now outside)) × (entries ≤ length (now either)) ⌝ }
+    ensures { λ r. ⌜ BitsOf m (now (outside .entry)) (now (either .entry)) r ⌝ }
+{
+    let room = zeros(m, outside);
+    Bits {
+        need: room & zeros(m, either),
+        room,
+    }
 }
 
 // An area for a list: for as many boxes as a class can have combinations.
@@ -37,15 +58,14 @@ pub fn area() -> [u8; 32]
     [0u8; 32]
 }
 
-// The first shortest list of the class of m marks that the counts tell. The search has an area of its own; the lent one gets the finished list.
-fn searched(m: usize, outside: &[u32], area: &mut [u8]) -> Value
-    requires { ⌜ (m ≤ mostMarks) × (entries ≤ length (now outside)) × (2 ^ m ≤ length (now area)) ⌝ }
-    ensures { λ r. ⌜ Searched m (classOf m (now (outside .entry))) (now (area .entry)) r (now (area .exit)) ⌝ }
+// The first shortest list of m marks that covers `need` inside `room`. The search has an area of its own; the lent one gets the finished list.
+fn searched(m: usize, need: u32, room: u32, area: &mut [u8]) -> Value
+    requires { ⌜ (m ≤ mostMarks) × (need < 2 ^ (2 ^ m)) × (2 ^ m ≤ length (now area)) ⌝ }
+    ensures { λ r. ⌜ Searched m (has need) (has room) (now (area .entry)) r (now (area .exit)) ⌝ }
 {
-    let class = class_bits(m, outside);
     let mut own = crate::area();
     let n = boxes::power2(m);
-    match seek::shortest(m, class, class, &mut own[..n]) {
+    match seek::shortest(m, need, room, &mut own[..n]) {
         Found::Boxes(k) => {
             ground::put(area, 0, &own[..k]);
             Value {
@@ -67,13 +87,15 @@ pub fn list_sound(sheet: Sheet, area: &mut [u8]) -> Value
 {
     let m = sheet.marks;
     let outside = sheet.outside;
+    let either = sheet.either;
     if area.len() < boxes::power2(m) {
         return Value {
             number: 5,
             value: 0,
         };
     }
-    searched(m, &outside, area)
+    let told = bits(m, &outside, &either);
+    searched(m, told.need, told.room, area)
 }
 
 // The shortest list of the sheet's class, in the lent area: its length.
@@ -90,26 +112,29 @@ pub fn list(sheet: Sheet, area: &mut [u8]) -> Value
 }
 
 // What the combination c adds to the class total: its seconds, if it is in the class.
-fn seconds_of(m: usize, c: usize, outside: &[u32], held: &[u32]) -> u64
-    requires { ⌜ (m ≤ mostMarks) × (c < 2 ^ m) × (entries ≤ length (now outside)) × (entries ≤ length (now held)) ⌝ }
-    ensures { λ r. ⌜ (r ≡ taken (classOf m (now (outside .entry))) (own m (now (held .entry))) c) × (r < 2 ^ 32) ⌝ }
+fn seconds_of(m: usize, c: usize, outside: &[u32], either: &[u32], held: &[u32]) -> u64
+    requires { ⌜ (m ≤ mostMarks) × (c < 2 ^ m) × (entries ≤ length (now outside)) × (entries ≤ length (now either)) × (entries ≤ length (now held)) ⌝ }
+    ensures { λ r. ⌜ (r ≡ taken (inClass (recordOf (sheetWith m (now (outside .entry)) (now (either .entry)) (now (held .entry))))) (own m (now (held .entry))) c) × (r < 2 ^ 32) ⌝ }
 {
     let at = boxes::single(m, c);
     if outside[at] != 0 {
+        return 0;
+    }
+    if either[at] != 0 {
         return 0;
     }
     ground::wide(held[at])
 }
 
 // The seconds held in the class of m marks.
-fn in_class(m: usize, outside: &[u32], held: &[u32]) -> u64
-    requires { ⌜ (m ≤ mostMarks) × (entries ≤ length (now outside)) × (entries ≤ length (now held)) ⌝ }
-    ensures { λ r. ⌜ r ≡ sum (2 ^ m) (taken (classOf m (now (outside .entry))) (own m (now (held .entry)))) ⌝ }
+fn in_class(m: usize, outside: &[u32], either: &[u32], held: &[u32]) -> u64
+    requires { ⌜ (m ≤ mostMarks) × (entries ≤ length (now outside)) × (entries ≤ length (now either)) × (entries ≤ length (now held)) ⌝ }
+    ensures { λ r. ⌜ r ≡ totalOf (recordOf (sheetWith m (now (outside .entry)) (now (either .entry)) (now (held .entry)))) ⌝ }
 {
     let n = boxes::power2(m);
     let mut total: u64 = 0;
     for c in 0..n {
-        total = total + seconds_of(m, c, outside, held);
+        total = total + seconds_of(m, c, outside, either, held);
     }
     total
 }
@@ -121,8 +146,9 @@ pub fn total_sound(sheet: Sheet) -> u64
 {
     let m = sheet.marks;
     let outside = sheet.outside;
+    let either = sheet.either;
     let held = sheet.held;
-    in_class(m, &outside, &held)
+    in_class(m, &outside, &either, &held)
 }
 
 // The seconds held in the sheet's class.

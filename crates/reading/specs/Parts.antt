@@ -1,18 +1,21 @@
 -- What the parts of the reader tell each other. t is all the bytes, and `at` an offset.
 use Prim.Native.Nat.{ℕ, _+_, _^_, _≤_, _<_}
 use mathlib.Core.Path.{_≡_}
-use mathlib.Core.Bool.{true, false, _&&_}
+use mathlib.Core.Bool.{true, false, cond, _&&_}
 use mathlib.Core.List.{List}
 use lib.Dec.{eqb, ltb}
 use lib.ListN.{length, take, drop}
 use Rattle.boxes.specs.Sums.{only}
 use Rattle.tables.specs.Tables.{entry}
 use Rattle.sheet.specs.Limits.{mostMarks, mostHeld}
-use Rattle.sheet.specs.Record.{Record, withClass, withTimes}
-use Rattle.stored.specs.Sections.{standsIn, heldIn}
+use Rattle.sheet.specs.Record.{Record, withStanding, withTimes}
+use Rattle.sheet.specs.declared.Standing.the-variants as standing
+use Rattle.stored.specs.Sections.{standsIn, takes, heldIn}
 use Rattle.stored.specs.Fields.{numberIn, Next, due, count, sectionsDue, entriesDue, Outcome, refused, Run}
 use Rattle.stored.specs.declared.Section.{Section}
-use Rattle.stored.specs.declared.Section.the-variants.{Class, Held}
+use Rattle.stored.specs.declared.Section.the-variants.{Class, Either, Held}
+use Rattle.stored.specs.declared.Layout.{Layout}
+use Rattle.stored.specs.declared.Layout.the-variants.{First, Today}
 use Rattle.reading.specs.declared.fields.Field.{Field}
 use Rattle.reading.specs.declared.sections.Part.{Part}
 
@@ -35,39 +38,59 @@ pub record Leads (t : List ℕ) (s : Next) (at : ℕ) (u : Next) (next : ℕ) : 
 -- of a section: the least number behind a combination, and the most that a combination has of its own
 abbrev pub least : Section → ℕ
 least Class = 0
+least Either = 0
 least Held = 1
 
 abbrev pub mostOwn : Section → ℕ
 mostOwn Class = 1
+mostOwn Either = 1
 mostOwn Held = mostHeld
 
--- the record that has in a section what the combinations have of their own: those in the class have 0, and the others their seconds
+-- what a combination has in a section with this number behind it
+abbrev pub hasIn : Section → ℕ → ℕ
+hasIn Class x = 1
+hasIn Either x = 1
+hasIn Held x = x
+
+-- the record that has in a section what the combinations have in it: of this standing where that is not 0, or these seconds
 abbrev pub withOwn : Section → (ℕ → ℕ) → Record → Record
-withOwn Class f r = withClass (λ c. ltb c (2 ^ r .marks) && eqb (f c) 0) r
+withOwn Class f r = withStanding (λ c. cond (ltb c (2 ^ r .marks) && ltb 0 (f c)) standing.In (r .standing c)) r
+withOwn Either f r = withStanding (λ c. cond (ltb c (2 ^ r .marks) && ltb 0 (f c)) standing.Either (r .standing c)) r
 withOwn Held f r = withTimes (λ c. only (ltb c (2 ^ r .marks)) (f c)) r
 
--- what can be read before a section: nothing of it, and nothing held
-pub record ReadBefore (s : Section) (m : ℕ) (r : Record) : Type 0 where
+-- what can be read before a section: nothing of it, nothing held, and `barred` tells what it does not take
+pub record ReadBefore (s : Section) (m : ℕ) (barred : List ℕ) (r : Record) : Type 0 where
   pub marks : r .marks ≡ m
   pub none : (c : ℕ) → standsIn s r c ≡ false
   pub nothing-held : heldIn r ≡ 0
+  pub taken : (c : ℕ) → c < 2 ^ m → takes s r c ≡ eqb (entry barred c) 0
 
 -- What was read of a section up to an offset. The run leads there from `from`, whatever was read before it and whichever sections follow.
-pub record Got (t : List ℕ) (s : Section) (m : ℕ) (from to : List Section → Record → Next) (start : ℕ) (own : List ℕ) (at : ℕ) : Type 0 where
+pub record Got (t : List ℕ) (s : Section) (m : ℕ) (barred : List ℕ) (from to : List Section → Record → Next) (start : ℕ) (own : List ℕ) (at : ℕ) : Type 0 where
   pub inside : at ≤ length t
   pub long : 2 ^ m ≤ length own
   pub most : (c : ℕ) → c < 2 ^ m → entry own c ≤ mostOwn s
-  pub leads : (rest : List Section) (r : Record) → ReadBefore s m r → Leads t (from rest r) start (to rest (withOwn s (entry own) r)) at
+  pub leads : (rest : List Section) (r : Record) → ReadBefore s m barred r → Leads t (from rest r) start (to rest (withOwn s (entry own) r)) at
 
 -- a part of the form: refused with 10 and the place, or read
-pub data PartRead (t : List ℕ) (s : Section) (m : ℕ) (from : List Section → Record → Next) (start : ℕ) : Part → Type 0 where
-  bad : {p : Part} → p .good ≡ false → ((rest : List Section) (r : Record) → ReadBefore s m r → Run mostMarks (from rest r) start (drop start t) (refused 10 (p .at)))
-      → PartRead t s m from start p
-  good : {p : Part} → p .good ≡ true → Got t s m from sectionsDue start (p .own) (p .at) → PartRead t s m from start p
+pub data PartRead (t : List ℕ) (s : Section) (m : ℕ) (barred : List ℕ) (from : List Section → Record → Next) (start : ℕ) : Part → Type 0 where
+  bad : {p : Part} → p .good ≡ false → ((rest : List Section) (r : Record) → ReadBefore s m barred r → Run mostMarks (from rest r) start (drop start t) (refused 10 (p .at)))
+      → PartRead t s m barred from start p
+  good : {p : Part} → p .good ≡ true → Got t s m barred from sectionsDue start (p .own) (p .at) → PartRead t s m barred from start p
 
 -- the n combinations behind a count, and the whole section
-abbrev pub EntriesRead : List ℕ → Section → ℕ → ℕ → ℕ → Part → Type 0
-EntriesRead t s m n start p = PartRead t s m (λ (rest : List Section) (r : Record). entriesDue s rest r n 0) start p
+abbrev pub EntriesRead : List ℕ → Section → ℕ → List ℕ → ℕ → ℕ → Part → Type 0
+EntriesRead t s m barred n start p = PartRead t s m barred (λ (rest : List Section) (r : Record). entriesDue s rest r n 0) start p
 
-abbrev pub SectionRead : List ℕ → Section → ℕ → ℕ → Part → Type 0
-SectionRead t s m start p = PartRead t s m (λ (rest : List Section) (r : Record). due (count s rest r)) start p
+abbrev pub SectionRead : List ℕ → Section → ℕ → List ℕ → ℕ → Part → Type 0
+SectionRead t s m barred start p = PartRead t s m barred (λ (rest : List Section) (r : Record). due (count s rest r)) start p
+
+-- the either section behind a class of these combinations; 01's layout has none
+abbrev pub EitherRead : List ℕ → Layout → ℕ → List ℕ → ℕ → Part → Type 0
+EitherRead t First m ins start p = (p .good ≡ true) × (p .at ≡ start) × ((c : ℕ) → entry (p .own) c ≡ 0) × (2 ^ m ≤ length (p .own))
+EitherRead t Today m ins start p = SectionRead t Either m ins start p
+
+-- 1 for each combination that stands in neither section
+pub record OutsOf (ins eithers outs : List ℕ) : Type 0 where
+  pub long : length outs ≡ 32
+  pub each : (c : ℕ) → c < 32 → entry outs c ≡ only (eqb (entry ins c) 0 && eqb (entry eithers c) 0) 1

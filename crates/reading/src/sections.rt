@@ -4,12 +4,13 @@ ghost use mathlib.Core.Bool.{false};
 ghost use Prim.Native.Nat.{_≤_};
 ghost use lib.ListN.{length};
 ghost use Rattle.sheet.specs.Limits.{mostMarks};
-ghost use Rattle.reading.specs.Parts.{least, EntriesRead, SectionRead};
+ghost use Rattle.reading.specs.Parts.{least, hasIn, EntriesRead, SectionRead};
 use crate::fields;
 use sheet::Sheet;
 use stored::Section;
 
-// A section that was read: what each combination has of its own, and where the next field stands; or, if it is not good, the place.
+// A section that was read: what each combination has in it, 0 where it does not stand there, and where the next field stands; or, if it is not good,
+// the place.
 pub struct Part {
     pub good: bool,
     pub at: usize,
@@ -22,7 +23,19 @@ fn least(section: Section) -> usize
 {
     match section {
         Section::Class => 0,
+        Section::Either => 0,
         Section::Held => 1,
+    }
+}
+
+// What a combination has in a section with this number behind it: its seconds, or 1.
+fn has_in(section: Section, number: u32) -> u32
+    ensures { λ r. ⌜ r ≡ hasIn section number ⌝ }
+{
+    match section {
+        Section::Class => 1,
+        Section::Either => 1,
+        Section::Held => number,
     }
 }
 
@@ -38,17 +51,23 @@ fn stopped(at: usize) -> Part
     }
 }
 
-// n combinations from an offset on. What is behind one is its own: nothing, which is an outside count of 0, or seconds.
-fn read_entries(t: &[u8], start: usize, m: usize, n: usize, section: Section) -> Part
+// n combinations from an offset on. `barred` is not 0 for those that the section does not take.
+fn read_entries(
+    t: &[u8],
+    start: usize,
+    m: usize,
+    n: usize,
+    section: Section,
+    barred: &[u32; 32],
+) -> Part
     requires { ⌜ m ≤ mostMarks ⌝ }
     requires { ⌜ start ≤ length (now t) ⌝ }
-    ensures { λ r. ⌜ EntriesRead (now (t .entry)) section m n start r ⌝ }
+    ensures { λ r. ⌜ EntriesRead (now (t .entry)) section m (now (barred .entry)) n start r ⌝ }
 {
     let top = boxes::power2(m) - 1;
     let k = section.bytes_behind();
     let few = least(section);
-    let none = section.unset();
-    let mut own = [none; 32];
+    let mut own = [0u32; 32];
     let mut at = start;
     let mut low: usize = 0;
     let mut sum: usize = 0;
@@ -60,12 +79,15 @@ fn read_entries(t: &[u8], start: usize, m: usize, n: usize, section: Section) ->
             return stopped(next);
         }
         let c = combination.number;
+        if barred[c] != 0 {
+            return stopped(at);
+        }
         let behind = fields::read(t, next, k, few, Sheet::MOST_HELD as usize - sum);
         if !behind.good {
             return stopped(behind.at);
         }
         at = behind.at;
-        own[c] = behind.number as u32;
+        own[c] = has_in(section, behind.number as u32);
         sum = sum + behind.number;
         low = c + 1;
         left -= 1;
@@ -78,15 +100,15 @@ fn read_entries(t: &[u8], start: usize, m: usize, n: usize, section: Section) ->
 }
 
 // The section at an offset.
-pub fn read(t: &[u8], at: usize, m: usize, section: Section) -> Part
+pub fn read(t: &[u8], at: usize, m: usize, section: Section, barred: &[u32; 32]) -> Part
     requires { ⌜ m ≤ mostMarks ⌝ }
     requires { ⌜ at ≤ length (now t) ⌝ }
-    ensures { λ r. ⌜ SectionRead (now (t .entry)) section m at r ⌝ }
+    ensures { λ r. ⌜ SectionRead (now (t .entry)) section m (now (barred .entry)) at r ⌝ }
 {
     let count = fields::read(t, at, 2, 0, boxes::power2(m));
     let first = count.at;
     if !count.good {
         return stopped(first);
     }
-    read_entries(t, first, m, count.number, section)
+    read_entries(t, first, m, count.number, section, barred)
 }

@@ -7,7 +7,9 @@ use Rattle.sheet.specs.Record.{sheetOf, opened}
 use Rattle.sheet.specs.Sound.{Ready, recordOf}
 use Rattle.sheet.specs.declared.Sheet.{Sheet}
 use Rattle.sheet.specs.declared.Value.{Value}
-use Rattle.stored.specs.Fields.{Outcome, good, refused, Reading}
+use Rattle.stored.specs.Fields.{Outcome, good, refused, ReadingBy}
+use Rattle.stored.specs.declared.Layout.{Layout}
+use Rattle.stored.specs.declared.Layout.the-variants.{Today}
 use Rattle.stored.specs.Form.{form}
 use Rattle.stored.specs.declared.Read.{Read}
 
@@ -22,9 +24,13 @@ pub record ReadBy (R : Outcome → Type 0) (n : ℕ) (answer : Read) : Type 0 wh
   pub run : R outcome
   pub is : answer ≡ readOf n outcome
 
--- by the stored form
+-- by the stored form of a layout
+abbrev pub ReadsBy : Layout → ℕ → ℕ → List ℕ → Read → Type 0
+ReadsBy layout most n t answer = ReadBy (ReadingBy layout most t) n answer
+
+-- by today's
 abbrev pub Reads : ℕ → ℕ → List ℕ → Read → Type 0
-Reads most n t answer = ReadBy (Reading most t) n answer
+Reads most n t answer = ReadsBy Today most n t answer
 
 -- Writing a sheet to the lent bytes `out`: 7 as for the total; 5 exactly if room is below the length of the form; else the form stands in front, and
 -- the bytes behind it stay. A refused call leaves every byte.

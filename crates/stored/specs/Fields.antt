@@ -1,5 +1,5 @@
--- Reading the stored form (01, 'Stored form'): which field comes next, how each is judged once complete, and what a run over the bytes gives.
--- Largest marks are a parameter.
+-- Reading a stored form (01, 'Stored form'; 02, Q-6): which field comes next, how each is judged once complete, and what a run over the bytes gives.
+-- Largest marks and the sections in their order are parameters.
 use Prim.Native.Nat.{ℕ, zero, suc, _+_, _*_, _^_, _≤_, _<_}
 use mathlib.Core.Bool.{cond, _&&_}
 use mathlib.Core.Path.{_≡_}
@@ -8,7 +8,9 @@ use lib.ListN.{length, getD, take, drop}
 use lib.Dec.{leb, ltb}
 use Rattle.sheet.specs.Limits.{marksOk}
 use Rattle.sheet.specs.Record.{Record, opened}
-use Rattle.stored.specs.Sections.{sections, bytesBehind, heldIn, mayStand, added}
+use Rattle.stored.specs.Sections.{sections, bytesBehind, takes, heldIn, mayStand, added}
+use Rattle.stored.specs.declared.Layout.{Layout}
+use Rattle.stored.specs.declared.Layout.the-variants.{Today}
 use Rattle.stored.specs.declared.Section.{Section}
 
 -- each is a byte: what is read is any list of these
@@ -20,18 +22,18 @@ unfoldable pub numberIn : List ℕ → ℕ
 numberIn [] = 0
 numberIn (b ∷ l) = b + numberIn l * 256
 
--- The field that is due: the marks; or, of a section s with the sections `rest` behind it, its count, a combination, or the number behind the
+-- The field that is due: the marks, with all sections behind them; or, of a section s with the sections `rest` behind it, its count, a combination, or the number behind the
 -- combination c. r is what was read before. `left` more combinations follow in the section, and `low` is the least that may stand there (one above
 -- the one before).
 pub data Due : Type 0 where
-  marks : Due
+  marks : (rest : List Section) → Due
   count : (s : Section) (rest : List Section) (r : Record) → Due
   combination : (s : Section) (rest : List Section) (r : Record) (left low : ℕ) → Due
   behind : (s : Section) (rest : List Section) (r : Record) (left c : ℕ) → Due
 
 -- how many bytes it has; a field of none is complete at once, and its number is 0
 abbrev pub width : Due → ℕ
-width marks = 1
+width (marks rest) = 1
 width (count s rest r) = 2
 width (combination s rest r left low) = 1
 width (behind s rest r left c) = bytesBehind s
@@ -52,15 +54,15 @@ abbrev pub entriesDue : Section → List Section → Record → (n low : ℕ) �
 entriesDue s rest r zero low = sectionsDue rest r
 entriesDue s rest r (suc left) low = due (combination s rest r left low)
 
--- Each field judged by its number. m wrong is 1. Otherwise 10: a count above 2^m, a combination not below 2^m or not above the one before, or a
--- number that may not stand behind it.
+-- Each field judged by its number. m wrong is 1. Otherwise 10: a count above 2^m, a combination not below 2^m or not above the one before or not taken, or
+-- a number that may not stand behind it.
 unfoldable pub judge : ℕ → Due → ℕ → Next
-judge most marks m = cond (marksOk most m) (sectionsDue sections (opened m)) (wrong 1)
+judge most (marks rest) m = cond (marksOk most m) (sectionsDue rest (opened m)) (wrong 1)
 judge most (count s rest r) n = cond (leb n (2 ^ r .marks)) (entriesDue s rest r n 0) (wrong 10)
-judge most (combination s rest r left low) c = cond (leb low c && ltb c (2 ^ r .marks)) (due (behind s rest r left c)) (wrong 10)
+judge most (combination s rest r left low) c = cond (leb low c && (ltb c (2 ^ r .marks) && takes s r c)) (due (behind s rest r left c)) (wrong 10)
 judge most (behind s rest r left c) x = cond (mayStand s (heldIn r) x) (entriesDue s rest (added s r c x) left (c + 1)) (wrong 10)
 
--- what reading comes to: a record of marks, class and times, or a number with a place
+-- what reading comes to: a record of marks, standings and times, or a number with a place
 pub data Outcome : Type 0 where
   good : Record → Outcome
   refused : (number place : ℕ) → Outcome
@@ -75,6 +77,10 @@ pub data Run (most : ℕ) : Next → ℕ → List ℕ → Outcome → Type 0 whe
   field : {d : Due} {at : ℕ} {l : List ℕ} {o : Outcome} → width d ≤ length l → Run most (judge most d (numberIn (take (width d) l))) (at + width d) (drop (width d) l) o
       → Run most (due d) at l o
 
--- all the bytes
+-- all the bytes, by a layout
+abbrev pub ReadingBy : Layout → ℕ → List ℕ → Outcome → Type 0
+ReadingBy layout most t o = Run most (due (marks (sections layout))) 0 t o
+
+-- by today's
 abbrev pub Reading : ℕ → List ℕ → Outcome → Type 0
-Reading most t o = Run most (due marks) 0 t o
+Reading most t o = ReadingBy Today most t o

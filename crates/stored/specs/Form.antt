@@ -1,10 +1,12 @@
--- The bytes of a record of marks, class and times (01, 'Stored form').
+-- The bytes of a record of marks, standings and times (01, 'Stored form'; 02, Q-6).
 use Prim.Native.Nat.{ℕ, zero, suc, _/_, _%_, _^_}
 use mathlib.Core.Bool.{Bool, cond}
 use mathlib.Core.List.{List, [], _∷_, _++_}
 use Rattle.sheet.specs.Record.{Record}
 use Rattle.sheet.specs.Sound.{sizeOf}
 use Rattle.stored.specs.Sections.{sections, bytesBehind, standsIn, numberBehind}
+use Rattle.stored.specs.declared.Layout.{Layout}
+use Rattle.stored.specs.declared.Layout.the-variants.{Today}
 use Rattle.stored.specs.declared.Section.{Section}
 
 -- a number in k bytes, low byte first
@@ -34,5 +36,9 @@ sectionsOf [] r = []
 sectionsOf (s ∷ rest) r = section s r ++ sectionsOf rest r
 
 -- byte m, and the sections; nothing follows
-unfoldable pub form : Record → List ℕ
-form r = r .marks ∷ sectionsOf sections r
+unfoldable pub formBy : Layout → Record → List ℕ
+formBy layout r = r .marks ∷ sectionsOf (sections layout) r
+
+-- today's
+abbrev pub form : Record → List ℕ
+form r = formBy Today r

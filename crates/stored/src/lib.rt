@@ -2,7 +2,6 @@
 ghost use mathlib.Core.Path.{_≡_};
 ghost use Prim.Native.Nat.{_≤_};
 ghost use Rattle.stored.specs.Sections.{bytesBehind};
-ghost use Rattle.stored.specs.Parts.{unset};
 ghost use Rattle.stored.specs.Fields.{refused};
 ghost use Rattle.stored.specs.Answers.{readOf};
 ghost use Rattle.sheet.specs.Limits.{entries};
@@ -28,9 +27,16 @@ impl Read {
     }
 }
 
-// The sections of the form: the combinations in the class, and those that hold seconds.
+// The layouts of a stored form: 01's, and today's, which has the either combinations behind the class.
+pub enum Layout {
+    First,
+    Today,
+}
+
+// The sections of a form: the combinations in the class, those that are either, and those that hold seconds.
 pub enum Section {
     Class,
+    Either,
     Held,
 }
 
@@ -41,17 +47,8 @@ impl Section {
     {
         match self {
             Section::Class => 0,
+            Section::Either => 0,
             Section::Held => 4,
-        }
-    }
-
-    // What a combination that does not stand in the section has of its own in the sheet's table: an outside count of 1, or no seconds.
-    pub fn unset(self) -> u32
-        ensures { λ r. ⌜ r ≡ unset self ⌝ }
-    {
-        match self {
-            Section::Class => 1,
-            Section::Held => 0,
         }
     }
 }

@@ -1,29 +1,39 @@
--- The sections as lent tables tell them. k bytes stand behind each combination, and `unset` is what one has of its own that does not stand in the section.
-use Prim.Native.Nat.{ℕ, _^_}
-use mathlib.Core.Bool.{Bool, not, cond}
+-- The sections as lists tell them that have for each combination what it has in the section: 0 where it does not stand there, else 1 or its seconds. k
+-- bytes stand behind each combination.
+use Prim.Native.Nat.{ℕ, _^_, _<_}
+use mathlib.Core.Path.{_≡_}
+use mathlib.Core.Bool.{Bool, cond, _&&_}
 use mathlib.Core.List.{List, [], _∷_, _++_}
-use lib.Dec.{eqb}
-use Rattle.tables.specs.Tables.{own}
+use lib.Dec.{eqb, ltb}
+use lib.ListN.{length}
+use Rattle.boxes.specs.Sums.{only}
+use Rattle.tables.specs.Tables.{entry, own}
 use Rattle.sheet.specs.Sound.{sizeOf}
 use Rattle.stored.specs.Sections.{bytesBehind}
-use Rattle.stored.specs.Parts.{unset}
 use Rattle.stored.specs.Form.{bytes, listed}
 use Rattle.stored.specs.declared.Section.{Section}
 
--- whether a combination stands in it, x being what it has of its own, and what is written of it
-abbrev pub isSet : ℕ → ℕ → Bool
-isSet unset x = not (eqb x unset)
-
-abbrev pub entryText : ℕ → ℕ → ℕ → ℕ → List ℕ
-entryText k unset c x = cond (isSet unset x) (c ∷ bytes k x) []
+-- what is written of a combination, x being what it has
+abbrev pub entryText : ℕ → ℕ → ℕ → List ℕ
+entryText k c x = cond (ltb 0 x) (c ∷ bytes k x) []
 
 -- those that stand in it, and how many they are
-abbrev pub listIn : ℕ → ℕ → ℕ → List ℕ → List ℕ
-listIn k unset m t = listed (λ c. isSet unset (own m t c)) (λ c. c ∷ bytes k (own m t c)) (2 ^ m)
+abbrev pub listIn : ℕ → ℕ → List ℕ → List ℕ
+listIn k m has = listed (λ c. ltb 0 (entry has c)) (λ c. c ∷ bytes k (entry has c)) (2 ^ m)
 
-abbrev pub countIn : ℕ → ℕ → List ℕ → ℕ
-countIn unset m t = sizeOf m (λ c. isSet unset (own m t c))
+abbrev pub countIn : ℕ → List ℕ → ℕ
+countIn m has = sizeOf m (λ c. ltb 0 (entry has c))
 
 -- the section
 abbrev pub sectionIn : Section → ℕ → List ℕ → List ℕ
-sectionIn s m t = bytes 2 (countIn (unset s) m t) ++ listIn (bytesBehind s) (unset s) m t
+sectionIn s m has = bytes 2 (countIn m has) ++ listIn (bytesBehind s) m has
+
+-- what each combination has of its own in a table
+pub record Owns (m : ℕ) (t has : List ℕ) : Type 0 where
+  pub long : length has ≡ 32
+  pub each : (c : ℕ) → c < 2 ^ m → entry has c ≡ own m t c
+
+-- 1 for each combination that has neither count: those in the class
+pub record Ins (outs eithers has : List ℕ) : Type 0 where
+  pub long : length has ≡ 32
+  pub each : (c : ℕ) → c < 32 → entry has c ≡ only (eqb (entry outs c) 0 && eqb (entry eithers c) 0) 1

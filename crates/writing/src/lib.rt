@@ -5,10 +5,9 @@ ghost use lib.ListN.{length};
 ghost use Rattle.ground.specs.Areas.{Wrote};
 ghost use Rattle.sheet.specs.Limits.{mostMarks, entries};
 ghost use Rattle.sheet.specs.Sound.{Ready};
-ghost use Rattle.stored.specs.Parts.{unset};
 ghost use Rattle.stored.specs.Form.{bytes};
 ghost use Rattle.stored.specs.Answers.{Writes};
-ghost use Rattle.writing.specs.Sections.{entryText, listIn, countIn, sectionIn};
+ghost use Rattle.writing.specs.Sections.{entryText, listIn, countIn, sectionIn, Owns, Ins};
 use sheet::Sheet;
 use sheet::Value;
 use stored::Section;
@@ -27,46 +26,42 @@ fn put_bytes(out: &mut [u8], at: usize, k: usize, n: u64) -> usize
     next
 }
 
-// The combination c, with the number x that it has of its own in k bytes behind it, if that is set.
-fn put_entry(out: &mut [u8], at: usize, c: usize, x: u32, k: usize, unset: u32) -> usize
+// The combination c, with the number x that it has in the section in k bytes behind it, if that is not 0.
+fn put_entry(out: &mut [u8], at: usize, c: usize, x: u32, k: usize) -> usize
     requires { ⌜ c < 256 ⌝ }
-    requires { ⌜ at + length (entryText k unset c x) ≤ length (now out) ⌝ }
-    ensures { λ r. ⌜ Wrote (now (out .entry)) at (entryText k unset c x) r (now (out .exit)) ⌝ }
+    requires { ⌜ at + length (entryText k c x) ≤ length (now out) ⌝ }
+    ensures { λ r. ⌜ Wrote (now (out .entry)) at (entryText k c x) r (now (out .exit)) ⌝ }
 {
-    if x == unset {
+    if x == 0 {
         return at;
     }
     let next = ground::put_byte(out, at, c as u8);
     put_bytes(out, next, k, ground::wide(x))
 }
 
-// The combinations of a section, t being the table that tells them.
-fn put_list(out: &mut [u8], at: usize, m: usize, t: &[u32], k: usize, unset: u32) -> usize
+// The combinations of a section, `has` telling what each has in it.
+fn put_list(out: &mut [u8], at: usize, m: usize, has: &[u32; 32], k: usize) -> usize
     requires { ⌜ m ≤ mostMarks ⌝ }
-    requires { ⌜ entries ≤ length (now t) ⌝ }
-    requires { ⌜ at + length (listIn k unset m (now t)) ≤ length (now out) ⌝ }
-    ensures { λ r. ⌜ Wrote (now (out .entry)) at (listIn k unset m (now (t .entry))) r (now (out .exit)) ⌝ }
+    requires { ⌜ at + length (listIn k m (now has)) ≤ length (now out) ⌝ }
+    ensures { λ r. ⌜ Wrote (now (out .entry)) at (listIn k m (now (has .entry))) r (now (out .exit)) ⌝ }
 {
     let n = boxes::power2(m);
     let mut next = at;
     for c in 0..n {
-        let b = boxes::single(m, c);
-        next = put_entry(out, next, c, t[b], k, unset);
+        next = put_entry(out, next, c, has[c], k);
     }
     next
 }
 
 // How many combinations stand in a section.
-fn size(m: usize, t: &[u32], unset: u32) -> u64
+fn size(m: usize, has: &[u32; 32]) -> u64
     requires { ⌜ m ≤ mostMarks ⌝ }
-    requires { ⌜ entries ≤ length (now t) ⌝ }
-    ensures { λ r. ⌜ (r ≡ countIn unset m (now (t .entry))) × (r ≤ 2 ^ mostMarks) ⌝ }
+    ensures { λ r. ⌜ (r ≡ countIn m (now (has .entry))) × (r ≤ 2 ^ mostMarks) ⌝ }
 {
     let n = boxes::power2(m);
     let mut size: u64 = 0;
     for c in 0..n {
-        let b = boxes::single(m, c);
-        if t[b] != unset {
+        if has[c] != 0 {
             size += 1;
         }
     }
@@ -74,15 +69,48 @@ fn size(m: usize, t: &[u32], unset: u32) -> u64
 }
 
 // A section of n combinations: its count, and those.
-fn put_section(out: &mut [u8], at: usize, m: usize, t: &[u32], section: Section, n: u64) -> usize
+fn put_section(
+    out: &mut [u8],
+    at: usize,
+    m: usize,
+    has: &[u32; 32],
+    section: Section,
+    n: u64,
+) -> usize
     requires { ⌜ m ≤ mostMarks ⌝ }
-    requires { ⌜ entries ≤ length (now t) ⌝ }
-    requires { ⌜ n ≡ countIn (unset section) m (now t) ⌝ }
-    requires { ⌜ at + length (sectionIn section m (now t)) ≤ length (now out) ⌝ }
-    ensures { λ r. ⌜ Wrote (now (out .entry)) at (sectionIn section m (now (t .entry))) r (now (out .exit)) ⌝ }
+    requires { ⌜ n ≡ countIn m (now has) ⌝ }
+    requires { ⌜ at + length (sectionIn section m (now has)) ≤ length (now out) ⌝ }
+    ensures { λ r. ⌜ Wrote (now (out .entry)) at (sectionIn section m (now (has .entry))) r (now (out .exit)) ⌝ }
 {
     let first = put_bytes(out, at, 2, n);
-    put_list(out, first, m, t, section.bytes_behind(), section.unset())
+    put_list(out, first, m, has, section.bytes_behind())
+}
+
+// What each combination has of its own in a table.
+fn owns(m: usize, t: &[u32]) -> [u32; 32]
+    requires { ⌜ m ≤ mostMarks ⌝ }
+    requires { ⌜ entries ≤ length (now t) ⌝ }
+    ensures { λ r. ⌜ Owns m (now (t .entry)) r ⌝ }
+{
+    let n = boxes::power2(m);
+    let mut has = [0u32; 32];
+    for c in 0..n {
+        has[c] = t[boxes::single(m, c)];
+    }
+    has
+}
+
+// 1 for each combination that has neither count.
+fn ins(outs: &[u32; 32], eithers: &[u32; 32]) -> [u32; 32]
+    ensures { λ r. ⌜ Ins (now (outs .entry)) (now (eithers .entry)) r ⌝ }
+{
+    let mut has = [0u32; 32];
+    for c in 0..32 {
+        if outs[c] == 0 && eithers[c] == 0 {
+            has[c] = 1;
+        }
+    }
+    has
 }
 
 // Writes a sheet that is known to be sound: no entry is tested again.
@@ -92,18 +120,24 @@ pub fn write_sound(sheet: Sheet, out: &mut [u8]) -> Value
 {
     let m = sheet.marks;
     let outside = sheet.outside;
+    let either = sheet.either;
     let held = sheet.held;
-    let a = size(m, &outside, Section::Class.unset());
-    let b = size(m, &held, Section::Held.unset());
-    if (out.len() as u64) < 5 + a + b * 5 {
+    let eithers = owns(m, &either);
+    let class = ins(&owns(m, &outside), &eithers);
+    let times = owns(m, &held);
+    let a = size(m, &class);
+    let e = size(m, &eithers);
+    let b = size(m, &times);
+    if (out.len() as u64) < 7 + a + e + b * 5 {
         return Value {
             number: 5,
             value: 0,
         };
     }
     let first = ground::put_byte(out, 0, m as u8);
-    let middle = put_section(out, first, m, &outside, Section::Class, a);
-    let end = put_section(out, middle, m, &held, Section::Held, b);
+    let second = put_section(out, first, m, &class, Section::Class, a);
+    let third = put_section(out, second, m, &eithers, Section::Either, e);
+    let end = put_section(out, third, m, &times, Section::Held, b);
     Value {
         number: 0,
         value: end as u64,

@@ -1,0 +1,14 @@
+-- What the functions of the list tell each other.
+use Prim.Native.Nat.{ℕ, _^_, _<_}
+use mathlib.Core.Path.{_≡_}
+use mathlib.Core.List.{List}
+use Rattle.sets.specs.Sets.{has}
+use Rattle.sheet.specs.Record.{inClass, notOut, sheetWith}
+use Rattle.sheet.specs.Sound.{recordOf}
+use Rattle.listing.specs.declared.Bits.{Bits}
+
+-- the sets of what a list must cover and may cover, as the counts tell them, whatever is held
+pub record BitsOf (m : ℕ) (outside either : List ℕ) (b : Bits) : Type 0 where
+  pub small : b .need < 2 ^ (2 ^ m)
+  pub need : (held : List ℕ) → has (b .need) ≡ inClass (recordOf (sheetWith m outside either held))
+  pub room : (held : List ℕ) → has (b .room) ≡ notOut (recordOf (sheetWith m outside either held))
