@@ -135,7 +135,7 @@ pub fn check_sound(sheet: Sheet, list: &[u8]) -> Finding
     let m = sheet.marks;
     let outside = sheet.outside;
     let either = sheet.either;
-    let told = listing::bits(m, &outside, &either);
+    let told = listing::class_bits(m, &outside, &either);
     judged(m, told.need, told.room, list)
 }
 

@@ -40,7 +40,7 @@ fn zeros(m: usize, t: &[u32]) -> u32
 }
 
 // The sets that the counts tell: in are those with neither count, and those without an outside count are not out.
-pub fn bits(m: usize, outside: &[u32], either: &[u32]) -> Bits
+pub fn class_bits(m: usize, outside: &[u32], either: &[u32]) -> Bits
     requires { ⌜ (m ≤ mostMarks) × (entries ≤ length (now outside)) × (entries ≤ length (now either)) ⌝ }
     ensures { λ r. ⌜ BitsOf m (now (outside .entry)) (now (either .entry)) r ⌝ }
 {
@@ -94,7 +94,7 @@ pub fn list_sound(sheet: Sheet, area: &mut [u8]) -> Value
             value: 0,
         };
     }
-    let told = bits(m, &outside, &either);
+    let told = class_bits(m, &outside, &either);
     searched(m, told.need, told.room, area)
 }
 

@@ -89,8 +89,3 @@ SectionRead t s m barred start p = PartRead t s m barred (λ (rest : List Sectio
 abbrev pub EitherRead : List ℕ → Layout → ℕ → List ℕ → ℕ → Part → Type 0
 EitherRead t First m ins start p = (p .good ≡ true) × (p .at ≡ start) × ((c : ℕ) → entry (p .own) c ≡ 0) × (2 ^ m ≤ length (p .own))
 EitherRead t Today m ins start p = SectionRead t Either m ins start p
-
--- 1 for each combination that stands in neither section
-pub record OutsOf (ins eithers outs : List ℕ) : Type 0 where
-  pub long : length outs ≡ 32
-  pub each : (c : ℕ) → c < 32 → entry outs c ≡ only (eqb (entry ins c) 0 && eqb (entry eithers c) 0) 1

@@ -4,7 +4,7 @@ ghost use lib.ListN.{length};
 ghost use Rattle.sheet.specs.Limits.{mostMarks, entries};
 ghost use Rattle.stored.specs.Answers.{ReadsBy, Reads};
 ghost use Rattle.stored.specs.declared.Layout.the-variants.{First};
-ghost use Rattle.reading.specs.Parts.{EitherRead, OutsOf};
+ghost use Rattle.reading.specs.Parts.{EitherRead};
 
 mod fields;
 mod sections;
@@ -32,19 +32,6 @@ fn either_part(t: &[u8], at: usize, m: usize, ins: &[u32; 32], layout: Layout) -
         }
         Layout::Today => sections::read(t, at, m, Section::Either, ins),
     }
-}
-
-// 1 for each combination that stands in neither section: what it adds to the outside counts.
-fn outs_of(ins: &[u32; 32], eithers: &[u32; 32]) -> [u32; 32]
-    ensures { λ r. ⌜ OutsOf (now (ins .entry)) (now (eithers .entry)) r ⌝ }
-{
-    let mut outs = [0u32; 32];
-    for c in 0..32 {
-        if ins[c] == 0 && eithers[c] == 0 {
-            outs[c] = 1;
-        }
-    }
-    outs
 }
 
 // Reads a form of a layout: the sheet worked out from what was read, or the number of a refusal with the place.
@@ -79,7 +66,7 @@ fn read_by(bytes: &[u8], layout: Layout) -> Read
     if end < bytes.len() {
         return Read::refused(10, end);
     }
-    let outs = outs_of(&ins, &eithers);
+    let outs = stored::neither(&ins, &eithers);
     let times = held.own;
     Read {
         number: 0,

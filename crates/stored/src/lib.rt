@@ -2,6 +2,7 @@
 ghost use mathlib.Core.Path.{_≡_};
 ghost use Prim.Native.Nat.{_≤_};
 ghost use Rattle.stored.specs.Sections.{bytesBehind};
+ghost use Rattle.stored.specs.Parts.{Neither};
 ghost use Rattle.stored.specs.Fields.{refused};
 ghost use Rattle.stored.specs.Answers.{readOf};
 ghost use Rattle.sheet.specs.Limits.{entries};
@@ -51,4 +52,17 @@ impl Section {
             Section::Held => 4,
         }
     }
+}
+
+// 1 for each combination that has 0 in both lists: of those in and those either it makes those out, and of those out and those either those in.
+pub fn neither(a: &[u32; 32], b: &[u32; 32]) -> [u32; 32]
+    ensures { λ r. ⌜ Neither (now (a .entry)) (now (b .entry)) r ⌝ }
+{
+    let mut rest = [0u32; 32];
+    for c in 0..32 {
+        if a[c] == 0 && b[c] == 0 {
+            rest[c] = 1;
+        }
+    }
+    rest
 }

@@ -2,11 +2,10 @@
 -- bytes stand behind each combination.
 use Prim.Native.Nat.{ℕ, _^_, _<_}
 use mathlib.Core.Path.{_≡_}
-use mathlib.Core.Bool.{Bool, cond, _&&_}
+use mathlib.Core.Bool.{Bool, cond}
 use mathlib.Core.List.{List, [], _∷_, _++_}
-use lib.Dec.{eqb, ltb}
+use lib.Dec.{ltb}
 use lib.ListN.{length}
-use Rattle.boxes.specs.Sums.{only}
 use Rattle.tables.specs.Tables.{entry, own}
 use Rattle.sheet.specs.Sound.{sizeOf}
 use Rattle.stored.specs.Sections.{bytesBehind}
@@ -32,8 +31,3 @@ sectionIn s m has = bytes 2 (countIn m has) ++ listIn (bytesBehind s) m has
 pub record Owns (m : ℕ) (t has : List ℕ) : Type 0 where
   pub long : length has ≡ 32
   pub each : (c : ℕ) → c < 2 ^ m → entry has c ≡ own m t c
-
--- 1 for each combination that has neither count: those in the class
-pub record Ins (outs eithers has : List ℕ) : Type 0 where
-  pub long : length has ≡ 32
-  pub each : (c : ℕ) → c < 32 → entry has c ≡ only (eqb (entry outs c) 0 && eqb (entry eithers c) 0) 1

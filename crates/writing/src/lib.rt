@@ -7,7 +7,7 @@ ghost use Rattle.sheet.specs.Limits.{mostMarks, entries};
 ghost use Rattle.sheet.specs.Sound.{Ready};
 ghost use Rattle.stored.specs.Form.{bytes};
 ghost use Rattle.stored.specs.Answers.{Writes};
-ghost use Rattle.writing.specs.Sections.{entryText, listIn, countIn, sectionIn, Owns, Ins};
+ghost use Rattle.writing.specs.Sections.{entryText, listIn, countIn, sectionIn, Owns};
 use sheet::Sheet;
 use sheet::Value;
 use stored::Section;
@@ -100,19 +100,6 @@ fn owns(m: usize, t: &[u32]) -> [u32; 32]
     has
 }
 
-// 1 for each combination that has neither count.
-fn ins(outs: &[u32; 32], eithers: &[u32; 32]) -> [u32; 32]
-    ensures { λ r. ⌜ Ins (now (outs .entry)) (now (eithers .entry)) r ⌝ }
-{
-    let mut has = [0u32; 32];
-    for c in 0..32 {
-        if outs[c] == 0 && eithers[c] == 0 {
-            has[c] = 1;
-        }
-    }
-    has
-}
-
 // Writes a sheet that is known to be sound: no entry is tested again.
 pub fn write_sound(sheet: Sheet, out: &mut [u8]) -> Value
     requires { ⌜ Ready mostMarks sheet ⌝ }
@@ -123,7 +110,7 @@ pub fn write_sound(sheet: Sheet, out: &mut [u8]) -> Value
     let either = sheet.either;
     let held = sheet.held;
     let eithers = owns(m, &either);
-    let class = ins(&owns(m, &outside), &eithers);
+    let class = stored::neither(&owns(m, &outside), &eithers);
     let times = owns(m, &held);
     let a = size(m, &class);
     let e = size(m, &eithers);
