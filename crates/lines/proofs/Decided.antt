@@ -15,7 +15,8 @@ use Rattle.times.specs.Texts.{Readable}
 use Rattle.times.specs.Places.{ReadsAs}
 use Rattle.times.proofs.Decided.{time-decided}
 use Rattle.sheet.specs.declared.Call.{Call}
-use Rattle.sheet.specs.declared.Call.the-variants.{Enter, Leave, Receive, Withdraw}
+use Rattle.sheet.specs.declared.Call.the-variants.{Change, Receive, Withdraw}
+use Rattle.sheet.specs.declared.Standing.the-variants.{In, Out}
 use Rattle.machine.specs.Rows.{Row, whole, spoiled}
 use Rattle.lines.specs.declared.Order.{Order}
 use Rattle.lines.specs.declared.Order.the-variants.{Make, End, Unreadable}
@@ -79,8 +80,8 @@ module _ (m : ℕ) where
       go (NoAmount, w) = (Unreadable, asked-unsaid v (b .0) (b .1) (unsaid (b .0) w))
 
   verb-asked : {line : List ℕ} (v : Verb) → Begins (word v) line → (o : Order) × Asked m line o
-  verb-asked enter b = pattern-asked enter Enter (λ part c n. enters n) (λ part. enter-unsaid) b
-  verb-asked leave b = pattern-asked leave Leave (λ part c n. leaves n) (λ part. leave-unsaid) b
+  verb-asked enter b = pattern-asked enter (Change In) (λ part c n. enters n) (λ part. enter-unsaid) b
+  verb-asked leave b = pattern-asked leave (Change Out) (λ part c n. leaves n) (λ part. leave-unsaid) b
   verb-asked receive b = amount-asked receive Receive (λ part c d f n. receives n) (λ part. receive-unsaid) b
   verb-asked withdraw b = amount-asked withdraw Withdraw (λ part c d f n. withdraws n) (λ part. withdraw-unsaid) b
   verb-asked {line} end b = same-or (length line) 3 (λ e. (End, asked-end b e)) (λ e. (Unreadable, asked-more b e))

@@ -15,7 +15,8 @@ use Rattle.ground.specs.Texts.{ascii, Begins}
 use Rattle.ground.proofs.Figures.{figures-length}
 use Rattle.times.specs.Texts.{Readable}
 use Rattle.times.specs.Places.{ReadsAs, value, fault}
-use Rattle.sheet.specs.declared.Call.the-variants.{Enter, Leave, Receive, Withdraw}
+use Rattle.sheet.specs.declared.Call.the-variants.{Change, Receive, Withdraw}
+use Rattle.sheet.specs.declared.Standing.the-variants.{In, Out}
 use Rattle.lines.specs.declared.Order.{Order}
 use Rattle.lines.specs.declared.Order.the-variants.{Make, End, Unreadable}
 use Rattle.lines.specs.declared.First.the-variants.{Marks, NotMarks}
@@ -105,8 +106,8 @@ one-verb v w a b e = sym (verb-of v a) ∙ ap (λ (l : List ℕ). verbOf (getD l
 
 -- what the part behind a verb says
 pub data Part (m : ℕ) : Verb → List ℕ → Order → Type 0 where
-  enters : {part : List ℕ} {c : ℕ} → Names m [] part c → Part m enter part (Make (Enter c) NoTime)
-  leaves : {part : List ℕ} {c : ℕ} → Names m [] part c → Part m leave part (Make (Leave c) NoTime)
+  enters : {part : List ℕ} {c : ℕ} → Names m [] part c → Part m enter part (Make (Change In c) NoTime)
+  leaves : {part : List ℕ} {c : ℕ} → Names m [] part c → Part m leave part (Make (Change Out c) NoTime)
   receives : {part : List ℕ} {c d : ℕ} {f : Form} → NamesAmount m [] part c d f → Part m receive part (Make (Receive c d) f)
   withdraws : {part : List ℕ} {c d : ℕ} {f : Form} → NamesAmount m [] part c d f → Part m withdraw part (Make (Withdraw c d) f)
   ends : Part m end [] End

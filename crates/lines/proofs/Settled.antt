@@ -11,7 +11,8 @@ use Rattle.times.specs.declared.Time.the-variants.{Value}
 use Rattle.times.specs.Texts.{Readable}
 use Rattle.times.specs.Places.{value}
 use Rattle.times.proofs.Settled.{read-settled}
-use Rattle.sheet.specs.declared.Call.the-variants.{Enter, Leave}
+use Rattle.sheet.specs.declared.Call.the-variants.{Change}
+use Rattle.sheet.specs.declared.Standing.the-variants.{In, Out}
 use Rattle.machine.specs.Rows.{Row}
 use Rattle.lines.specs.declared.Order.{Order}
 use Rattle.lines.specs.declared.Order.the-variants.{Make}
@@ -32,8 +33,8 @@ same-amount {m} {part} {b = b} {g = g} n k =
     (same-names (front-at m part n) (front-at m part k), t .0, t .1)
 
 part-settled : {m : ℕ} {v : Verb} {part : List ℕ} {o p : Order} → Part m v part o → Part m v part p → o ≡ p
-part-settled (enters n) (enters k) = ap (λ (c : ℕ). Make (Enter c) NoTime) (same-names n k)
-part-settled (leaves n) (leaves k) = ap (λ (c : ℕ). Make (Leave c) NoTime) (same-names n k)
+part-settled (enters n) (enters k) = ap (λ (c : ℕ). Make (Change In c) NoTime) (same-names n k)
+part-settled (leaves n) (leaves k) = ap (λ (c : ℕ). Make (Change Out c) NoTime) (same-names n k)
 part-settled (receives n) (receives k) = let q = same-amount n k in cc (q .0, q .1, q .2)
 part-settled (withdraws n) (withdraws k) = let q = same-amount n k in cc (q .0, q .1, q .2)
 part-settled ends ends = refl

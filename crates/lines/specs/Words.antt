@@ -7,7 +7,8 @@ use Rattle.ground.specs.Figures.{figures}
 use Rattle.times.specs.declared.Form.{Form}
 use Rattle.times.specs.declared.Form.the-variants.{NoTime}
 use Rattle.times.specs.Texts.{Readable}
-use Rattle.sheet.specs.declared.Call.the-variants.{Enter, Leave, Receive, Withdraw}
+use Rattle.sheet.specs.declared.Call.the-variants.{Change, Receive, Withdraw}
+use Rattle.sheet.specs.declared.Standing.the-variants.{In, Out}
 use Rattle.machine.specs.Rows.{Row, whole, spoiled}
 use Rattle.lines.specs.declared.Order.{Order}
 use Rattle.lines.specs.declared.Order.the-variants.{Make, End, Unreadable}
@@ -32,8 +33,8 @@ pub record NamesAmount (m : ℕ) (verb line : List ℕ) (c d : ℕ) (f : Form) :
 
 -- what a line says, of a sheet with m marks: a call, and the form of its running time, if it has one
 pub data Says (m : ℕ) (line : List ℕ) : Order → Type 0 where
-  enters : {c : ℕ} → Names m (ascii "in ") line c → Says m line (Make (Enter c) NoTime)
-  leaves : {c : ℕ} → Names m (ascii "out ") line c → Says m line (Make (Leave c) NoTime)
+  enters : {c : ℕ} → Names m (ascii "in ") line c → Says m line (Make (Change In c) NoTime)
+  leaves : {c : ℕ} → Names m (ascii "out ") line c → Says m line (Make (Change Out c) NoTime)
   receives : {c d : ℕ} {f : Form} → NamesAmount m (ascii "recv ") line c d f → Says m line (Make (Receive c d) f)
   withdraws : {c d : ℕ} {f : Form} → NamesAmount m (ascii "gone ") line c d f → Says m line (Make (Withdraw c d) f)
   ends : line ≡ ascii "end" → Says m line End

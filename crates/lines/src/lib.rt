@@ -6,6 +6,7 @@ ghost use Rattle.lines.specs.Parts.{Patterned, Amounts};
 use boxes;
 use machine::Line;
 use sheet::Call;
+use sheet::Standing;
 use times;
 use times::Form;
 use times::Time;
@@ -92,14 +93,14 @@ pub fn read(line: &[u8], m: usize) -> Order
         let Pattern::Combination(c) = p else {
             return Order::Unreadable;
         };
-        return Order::Make(Call::Enter(c), Form::NoTime);
+        return Order::Make(Call::Change(Standing::In, c), Form::NoTime);
     }
     if ground::begins(line, b"out ") {
         let p = read_pattern(&line[4..], m);
         let Pattern::Combination(c) = p else {
             return Order::Unreadable;
         };
-        return Order::Make(Call::Leave(c), Form::NoTime);
+        return Order::Make(Call::Change(Standing::Out, c), Form::NoTime);
     }
     if ground::begins(line, b"recv ") {
         let a = read_amount(&line[5..], m);
