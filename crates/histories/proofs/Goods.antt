@@ -1,46 +1,59 @@
 -- A record that a sheet can have stays one, whatever the call.
-use Prim.Native.Nat.{ℕ, _+_, _-_, _^_, _<_}
-use mathlib.Core.Path.{_≡_, refl, sym, subst}
-use mathlib.Core.Bool.{Bool, true, false, cond, _||_}
+use Prim.Native.Nat.{ℕ, _+_, _-_, _^_, _<_, _≤_}
+use mathlib.Core.Path.{_≡_, refl, sym, _∙_, ap, subst}
+use mathlib.Core.Bool.{Bool, true, false, cond, _&&_}
 use native.Mathlib.Omega.{arith}
-use lib.Dec.{eqb}
-use borrow.Author.Tests.{eqb-true, leb-true, eq-eqb, ne-eqb}
+use lib.Dec.{eqb, ltb}
+use borrow.Author.Tests.{leb-true, ltb-false, eq-eqb, ne-eqb}
 use Rattle.boxes.specs.Sums.{sum, only}
-use Rattle.ground.proofs.Cases.{if, clash, same-or, and-left}
+use Rattle.ground.proofs.Cases.{clash, same-or}
 use Rattle.boxes.proofs.Sums.{sum-change, sum-le, sum-zero}
 use Rattle.sheet.specs.Limits.{mostMarks, mostHeld, marksOk, amountOk}
-use Rattle.sheet.specs.Record.{Record, opened}
+use Rattle.sheet.specs.Record.{is, isOut, isEither, Record, updated, opened}
 use Rattle.sheet.specs.declared.Call.{Call}
-use Rattle.sheet.specs.declared.Call.the-variants.{Enter, Leave, Receive, Withdraw}
+use Rattle.sheet.specs.declared.Call.the-variants.{Change, Receive, Withdraw}
+use Rattle.sheet.specs.declared.Standing.{Standing}
 use Rattle.histories.specs.Histories.{Good, numberOf, accepted, after}
-use Rattle.histories.proofs.Kept.{in-range, fit-amount}
+use Rattle.histories.proofs.Kept.{in-range, change-passed, receive-passed}
 
-or-cases : (a e : Bool) → (a || e) ≡ true → (a ≡ false → e ≡ true)
-or-cases true e w f = clash refl f
-or-cases false e w f = w
+none-held : {x : ℕ} → x ≤ 0 → x ≡ 0
+none-held l = omega arith
+
+-- what stands at x, updated at c
+by-place : (P : Standing → Type 0) (c : ℕ) (to : Standing) (standing : ℕ → Standing) (x : ℕ) → (x ≡ c → P to) → ((x ≡ c → ⊥) → P (standing x)) → P (updated c to standing x)
+by-place P c to standing x here other = same-or x c (λ q. rw (eq-eqb x c q) (here q)) (λ n. rw (ne-eqb x c n) (other n))
 
 pub good-accepted : (r : Record) → Good r → (k : Call) → numberOf r k ≡ 0 → Good (accepted r k)
-good-accepted r good (Enter c) z = record {
-  marks = good .marks;
-  class = λ x e. if (r .class x) (λ y. good .class x y) (λ n.
-      let q = eqb-true x c (or-cases (r .class x) (eqb x c) e n) in
-      subst (λ (y : ℕ). y < 2 ^ r .marks) (sym q) (in-range (r .marks) c _ z .0));
-  times = good .times;
-}
-good-accepted r good (Leave c) z = record {
-  marks = good .marks;
-  class = λ x e. good .class x (and-left (r .class x) _ e);
-  times = good .times;
-}
+good-accepted r good (Change to c) z =
+    let w = in-range (r .marks) c _ z in
+    let p = change-passed (is to (r .standing c)) (isEither to && ltb 0 (r .times c)) (w .1) in
+    record {
+      marks = good .marks;
+      standing = λ x. by-place (λ (s : Standing). isOut s ≡ false → x < 2 ^ r .marks) c to (r .standing) x
+          (λ q e. omega (arith, w .0)) (λ q e. good .standing x e);
+      times = good .times;
+      apart = λ x. by-place (λ (s : Standing). isEither s ≡ true → r .times x ≡ 0) c to (r .standing) x
+          (λ q e. ap (r .times) q ∙ none-held (ltb-false 0 (r .times c) (sym (ap (λ (t : Bool). t && ltb 0 (r .times c)) e) ∙ p .1)))
+          (λ q e. good .apart x e);
+    }
 good-accepted r good (Receive c d) z =
     let w = in-range (r .marks) c _ z in
-    let fit = leb-true (sum (2 ^ r .marks) (r .times) + d) mostHeld (fit-amount 8 (omega arith) (amountOk d) _ (w .1)) in
+    let p = receive-passed (amountOk d) (isEither (r .standing c)) _ (w .1) in
+    let fit = leb-true (sum (2 ^ r .marks) (r .times) + d) mostHeld (p .1) in
     let more = sum-change (2 ^ r .marks) (r .times) (λ x. r .times x + only (eqb x c) d) c d (w .0) (λ x l n. rw (ne-eqb x c n) (omega arith)) (rw (eq-eqb c c refl)) in
-    record { marks = good .marks; class = good .class; times = omega arith }
+    record {
+      marks = good .marks;
+      standing = good .standing;
+      times = omega arith;
+      apart = λ x e. same-or x c
+          (λ q. clash (sym (ap (λ (y : ℕ). isEither (r .standing y)) q) ∙ e) (p .0))
+          (λ n. rw (ne-eqb x c n) (omega (arith, good .apart x e)));
+    }
 good-accepted r good (Withdraw c d) z = record {
   marks = good .marks;
-  class = good .class;
+  standing = good .standing;
   times = omega (arith, good .times, sum-le (2 ^ r .marks) (λ x. r .times x - only (eqb x c) d) (r .times) (λ x l. omega arith));
+  apart = λ x e. omega (arith, good .apart x e);
 }
 
 pub good-after : (r : Record) → Good r → (k : Call) → Good (after r k)
@@ -51,4 +64,4 @@ good-after r good k =
 
 -- a history begins with an opened sheet's record
 pub good-opened : (m : ℕ) → marksOk mostMarks m ≡ true → Good (opened m)
-good-opened m e = record { marks = e; class = λ c w. clash w refl; times = omega (arith, sum-zero (2 ^ m)) }
+good-opened m e = record { marks = e; standing = λ c w. clash refl w; times = omega (arith, sum-zero (2 ^ m)); apart = λ c w. refl }

@@ -1,26 +1,27 @@
 -- Demand 3, one call: on the sheet worked out afresh from a record, the program answers by the number worked out from the record alone, and
 -- leaves the sheet worked out afresh from the record after the call: the call shifts each quantity of the record as it shifts the table.
-use Prim.Native.Nat.{ℕ, _^_, _<_}
+use Prim.Native.Nat.{ℕ, _^_, _<_, _≤_}
 use mathlib.Core.Path.{_≡_, refl, sym, _∙_, ap, ap₂}
-use mathlib.Core.Bool.{Bool, true, false, not, cond, _&&_, _||_}
+use mathlib.Core.Bool.{Bool, true, false, not, cond}
+use mathlib.Core.List.{List}
 use native.Mathlib.Omega.{arith}
 use lib.Dec.{eqb, leb}
-use borrow.Author.Tests.{leb-true, not-false, eq-eqb, ne-eqb, le-leb, lt-leb}
-use Rattle.ground.proofs.Cases.{if, below-or, same-or}
-use Rattle.boxes.specs.Sums.{only}
+use borrow.Author.Tests.{leb-true, eq-eqb, ne-eqb, le-leb, lt-leb}
+use Rattle.ground.proofs.Cases.{below-or, same-or}
+use Rattle.tables.specs.Tables.{afresh, moved}
 use Rattle.tables.specs.Parts.{ShiftsAt}
 use Rattle.tables.proofs.Shifts.{stays-at, moved-afresh}
-use Rattle.sheet.specs.Limits.{mostMarks, entries, amountOk}
-use Rattle.sheet.specs.Record.{Record, Table, outside-counts, held-seconds, quantity, outOf, sheetWith, sheetFrom, sheetOf}
-use Rattle.sheet.specs.Calls.{answered, classShift, amountShift, moveOf, shiftIn, movedSheet, didOf}
+use Rattle.sheet.specs.Limits.{mostMarks, entries, marksOk, amountOk}
+use Rattle.sheet.specs.Record.{outs, eithers, Record, Table, outside-counts, either-counts, held-seconds, quantity, sheetWith, sheetFrom, sheetOf}
+use Rattle.sheet.specs.Calls.{answered, amountShift, moveOf, shiftIn, movedSheet, didOf}
 use Rattle.sheet.specs.declared.Call.{Call}
-use Rattle.sheet.specs.declared.Call.the-variants.{Enter, Leave, Receive, Withdraw}
+use Rattle.sheet.specs.declared.Call.the-variants.{Change, Receive, Withdraw}
 use Rattle.sheet.specs.declared.Move.{Move}
 use Rattle.sheet.specs.declared.Sheet.{Sheet}
 use Rattle.sheet.specs.declared.Answer.{Answer}
 use Rattle.sheet.proofs.Tests.{boxes-fit}
 use Rattle.histories.specs.Histories.{Good, numberOf, accepted, after}
-use Rattle.histories.proofs.Numbers.{number-afresh}
+use Rattle.histories.proofs.Numbers.{changed-shifts, own-outs, own-eithers, number-afresh}
 
 -- what an accepted call was judged by
 
@@ -30,72 +31,65 @@ in-range m c x z =
     (λ l. (l, ap (λ (t : Bool). cond t 2 x) (sym (lt-leb (2 ^ m) c l)) ∙ z))
     (λ l. absurd (omega (arith, ap (λ (t : Bool). cond t 2 x) (sym (le-leb (2 ^ m) c l)) ∙ z)))
 
-not-three : (t : Bool) → _≡_ {A = ℕ} (cond t 3 0) 0 → t ≡ false
-not-three t z = if t (λ e. absurd (omega (arith, ap (λ (x : Bool). cond x 3 0) (sym e) ∙ z))) (λ e. e)
+-- a class change: another standing, and nothing held by what becomes either
+pub change-passed : (e f : Bool) → _≡_ {A = ℕ} (cond e 3 (cond f 12 0)) 0 → (e ≡ false) × (f ≡ false)
+change-passed true f z = absurd (omega arith)
+change-passed false true z = absurd (omega arith)
+change-passed false false z = (refl, refl)
 
-pub fit-amount : (last : ℕ) → 0 < last → (a t : Bool) → cond (not a) 4 (cond (not t) last 0) ≡ 0 → t ≡ true
-fit-amount last l true true z = refl
-fit-amount last l true false z = absurd (omega arith)
-fit-amount last l false t z = absurd (omega arith)
+pub receive-passed : (a e t : Bool) → _≡_ {A = ℕ} (cond (not a) 4 (cond e 12 (cond (not t) 8 0))) 0 → (e ≡ false) × (t ≡ true)
+receive-passed false e t z = absurd (omega arith)
+receive-passed true true t z = absurd (omega arith)
+receive-passed true false false z = absurd (omega arith)
+receive-passed true false true z = (refl, refl)
 
-pub call-low : (r : Record) (k : Call) → numberOf r k ≡ 0 → moveOf k .at < 2 ^ r .marks
-call-low r (Enter c) z = in-range (r .marks) c _ z .0
-call-low r (Leave c) z = in-range (r .marks) c _ z .0
-call-low r (Receive c d) z = in-range (r .marks) c _ z .0
-call-low r (Withdraw c d) z = in-range (r .marks) c _ z .0
+pub withdraw-passed : (a t : Bool) → _≡_ {A = ℕ} (cond (not a) 4 (cond (not t) 9 0)) 0 → t ≡ true
+withdraw-passed false t z = absurd (omega arith)
+withdraw-passed true false z = absurd (omega arith)
+withdraw-passed true true z = refl
+
+pub call-low : (r : Record) (k : Call) (s : Sheet) → numberOf r k ≡ 0 → moveOf s k .at < 2 ^ r .marks
+call-low r (Change to c) s z = in-range (r .marks) c _ z .0
+call-low r (Receive c d) s z = in-range (r .marks) c _ z .0
+call-low r (Withdraw c d) s z = in-range (r .marks) c _ z .0
 
 -- each quantity of the record is shifted at the combination, and nowhere else
 
-or-none : (t e : Bool) → e ≡ false → (t || e) ≡ t
-or-none true e h = refl
-or-none false e h = h
-
-and-none : (t e : Bool) → e ≡ false → (t && not e) ≡ t
-and-none true e h = ap not h
-and-none false e h = refl
-
 module _ (r : Record) (c : ℕ) where
-  enter-shifts : r .class c ≡ false → ShiftsAt (r .marks) c (classShift true) (outOf (r .class)) (outOf (accepted r (Enter c) .class))
-  enter-shifts out = record {
-    here = rw (eq-eqb c c refl, out);
-    others = λ x l n. ap (λ (t : Bool). only (not t) 1) (or-none (r .class x) (eqb x c) (ne-eqb x c n));
-  }
-
-  leave-shifts : r .class c ≡ true → ShiftsAt (r .marks) c (classShift false) (outOf (r .class)) (outOf (accepted r (Leave c) .class))
-  leave-shifts inside = record {
-    here = rw (eq-eqb c c refl, inside);
-    others = λ x l n. ap (λ (t : Bool). only (not t) 1) (and-none (r .class x) (eqb x c) (ne-eqb x c n));
-  }
-
   receive-shifts : (d : ℕ) → ShiftsAt (r .marks) c (amountShift true d) (r .times) (accepted r (Receive c d) .times)
   receive-shifts d = record { here = rw (eq-eqb c c refl); others = λ x l n. rw (ne-eqb x c n) (omega arith) }
 
   withdraw-shifts : (d : ℕ) → leb d (r .times c) ≡ true → ShiftsAt (r .marks) c (amountShift false d) (r .times) (accepted r (Withdraw c d) .times)
   withdraw-shifts d h = record { here = rw (eq-eqb c c refl) (omega (arith, leb-true d (r .times c) h)); others = λ x l n. rw (ne-eqb x c n) (omega arith) }
 
-quantity-shifts : (r : Record) (k : Call) → numberOf r k ≡ 0 → (t : Table)
-    → ShiftsAt (r .marks) (moveOf k .at) (shiftIn t (moveOf k)) (quantity t r) (quantity t (accepted r k))
-quantity-shifts r (Enter c) z outside-counts = enter-shifts r c (not-three (r .class c) (in-range (r .marks) c _ z .1))
-quantity-shifts r (Enter c) z held-seconds = stays-at (r .marks) c (r .times)
-quantity-shifts r (Leave c) z outside-counts = leave-shifts r c (not-false (r .class c) (not-three (not (r .class c)) (in-range (r .marks) c _ z .1)))
-quantity-shifts r (Leave c) z held-seconds = stays-at (r .marks) c (r .times)
-quantity-shifts r (Receive c d) z outside-counts = stays-at (r .marks) c (outOf (r .class))
-quantity-shifts r (Receive c d) z held-seconds = receive-shifts r c d
-quantity-shifts r (Withdraw c d) z outside-counts = stays-at (r .marks) c (outOf (r .class))
-quantity-shifts r (Withdraw c d) z held-seconds = withdraw-shifts r c d (fit-amount 9 (omega arith) (amountOk d) _ (in-range (r .marks) c _ z .1))
+module _ (n : ℕ) (r : Record) (fits : 3 ^ r .marks ≤ n) (marks : marksOk mostMarks (r .marks) ≡ true) where
+  quantity-shifts : (k : Call) → numberOf r k ≡ 0 → (t : Table)
+      → let v = moveOf (sheetOf n r) k in ShiftsAt (r .marks) (v .at) (shiftIn t v) (quantity t r) (quantity t (accepted r k))
+  quantity-shifts (Change to c) z outside-counts =
+      rw (own-outs n r fits marks c (in-range (r .marks) c _ z .0)) (changed-shifts (r .marks) c outs (r .standing) to)
+  quantity-shifts (Change to c) z either-counts =
+      rw (own-eithers n r fits marks c (in-range (r .marks) c _ z .0)) (changed-shifts (r .marks) c eithers (r .standing) to)
+  quantity-shifts (Change to c) z held-seconds = stays-at (r .marks) c (r .times)
+  quantity-shifts (Receive c d) z outside-counts = stays-at (r .marks) c (quantity outside-counts r)
+  quantity-shifts (Receive c d) z either-counts = stays-at (r .marks) c (quantity either-counts r)
+  quantity-shifts (Receive c d) z held-seconds = receive-shifts r c d
+  quantity-shifts (Withdraw c d) z outside-counts = stays-at (r .marks) c (quantity outside-counts r)
+  quantity-shifts (Withdraw c d) z either-counts = stays-at (r .marks) c (quantity either-counts r)
+  quantity-shifts (Withdraw c d) z held-seconds = withdraw-shifts r c d (withdraw-passed (amountOk d) _ (in-range (r .marks) c _ z .1))
 
 -- so the moved sheet is the one worked out afresh from the record after the call
 module _ (n : ℕ) (v : Move) (r q : Record) where
   moved-sheet : v .at < 2 ^ r .marks → ((t : Table) → ShiftsAt (r .marks) (v .at) (shiftIn t v) (quantity t r) (quantity t q))
-      → movedSheet v (sheetOf n r) ≡ sheetFrom n (r .marks) (quantity outside-counts q) (quantity held-seconds q)
-  moved-sheet low h =
-      ap₂ (sheetWith (r .marks))
-      (moved-afresh n (r .marks) (v .at) (v .outside) _ _ low (h outside-counts))
-      (moved-afresh n (r .marks) (v .at) (v .held) _ _ low (h held-seconds))
+      → movedSheet v (sheetOf n r) ≡ sheetFrom n (r .marks) (quantity outside-counts q) (quantity either-counts q) (quantity held-seconds q)
+  moved-sheet low shifts =
+      let table : (t : Table) → moved (r .marks) (v .at) (shiftIn t v) (afresh n (r .marks) (quantity t r)) ≡ afresh n (r .marks) (quantity t q) =
+      λ t. moved-afresh n (r .marks) (v .at) (shiftIn t v) (quantity t r) (quantity t q) low (shifts t) in
+      ap₂ (λ (x y : List ℕ). sheetWith (r .marks) x y (moved (r .marks) (v .at) (v .held) (afresh n (r .marks) (r .times)))) (table outside-counts) (table either-counts)
+      ∙ ap (sheetWith (r .marks) (afresh n (r .marks) (quantity outside-counts q)) (afresh n (r .marks) (quantity either-counts q))) (table held-seconds)
 
-same-marks : (n : ℕ) (r : Record) (k : Call) → sheetFrom n (r .marks) (quantity outside-counts (accepted r k)) (quantity held-seconds (accepted r k)) ≡ sheetOf n (accepted r k)
-same-marks n r (Enter c) = refl
-same-marks n r (Leave c) = refl
+same-marks : (n : ℕ) (r : Record) (k : Call) → let q = accepted r k in
+    sheetFrom n (r .marks) (quantity outside-counts q) (quantity either-counts q) (quantity held-seconds q) ≡ sheetOf n q
+same-marks n r (Change to c) = refl
 same-marks n r (Receive c d) = refl
 same-marks n r (Withdraw c d) = refl
 
@@ -111,5 +105,7 @@ matched r a n k new e same =
 pub did-kept : (r : Record) → Good r → (k : Call)
     → _≡_ {A = Answer} (didOf mostMarks (sheetOf entries r) k) (record { number = numberOf r k; sheet = sheetOf entries (after r k) })
 did-kept r good k =
-    matched r (accepted r k) _ (numberOf r k) (movedSheet (moveOf k) (sheetOf entries r)) (number-afresh entries r (boxes-fit (r .marks) (good .marks)) (good .marks) k)
-    (λ z. moved-sheet entries (moveOf k) r (accepted r k) (call-low r k z) (quantity-shifts r k z) ∙ same-marks entries r k)
+    let fits = boxes-fit (r .marks) (good .marks) in
+    let v = moveOf (sheetOf entries r) k in
+    matched r (accepted r k) _ (numberOf r k) (movedSheet v (sheetOf entries r)) (number-afresh entries r fits (good .marks) k)
+    (λ z. moved-sheet entries v r (accepted r k) (call-low r k (sheetOf entries r) z) (quantity-shifts entries r fits (good .marks) k z) ∙ same-marks entries r k)

@@ -1,67 +1,75 @@
 -- On a sheet worked out afresh the calls' tests of kept numbers come to tests of the record: of the touched entries the all-free box has the
 -- most seconds and the single box the fewest, and counts that are right fit their boxes after any change of standing.
 use Prim.Native.Nat.{ℕ, _+_, _-_, _^_, _<_, _≤_}
-use mathlib.Core.Path.{_≡_, refl, sym, _∙_, ap}
-use mathlib.Core.Bool.{Bool, true, false, not, cond}
+use mathlib.Core.Path.{_≡_, refl, sym, _∙_, ap, ap₂}
+use mathlib.Core.Bool.{Bool, true, false, not, cond, _&&_}
 use native.Mathlib.Omega.{arith}
-use lib.Dec.{eqb, leb}
-use borrow.Author.Tests.{le-leb, lt-leb, leb-true, leb-false, eq-eqb, ne-eqb, not-false}
-use Rattle.ground.proofs.Cases.{if, clash, below-or, same-or}
+use lib.Dec.{leb, ltb}
+use borrow.Author.Tests.{le-leb, lt-leb, leb-true, leb-false, eq-eqb, ne-eqb}
+use Rattle.ground.proofs.Cases.{if, clash, below-or}
 use Rattle.boxes.specs.Boxes.{contains, sumIn, single, allFree, freeCount}
-use Rattle.boxes.specs.Sums.{sum, only}
-use Rattle.boxes.proofs.Boxes.{contains-box, contains-all, sumIn-term, sumIn-le-all, sumIn-all, sumIn-bound, sumIn-change}
+use Rattle.boxes.specs.Sums.{sum}
+use Rattle.boxes.proofs.Boxes.{contains-box, contains-all, sumIn-term, sumIn-le-all, sumIn-all, sumIn-bound}
 use Rattle.boxes.proofs.Choices.{through-contains}
-use Rattle.tables.specs.Tables.{entry, own, afresh, touched}
+use Rattle.tables.specs.declared.Shift.{Shift}
+use Rattle.tables.specs.declared.Shift.the-variants.{Stays, Up, Down}
+use Rattle.tables.specs.Tables.{entry, own, afresh, fitsShifted, touched, Shifts}
+use Rattle.tables.specs.Parts.{ShiftsAt}
 use Rattle.tables.proofs.Entries.{afresh-entry, afresh-own}
+use Rattle.tables.proofs.Shifts.{sum-shifts}
 use Rattle.tables.proofs.Touched.{touched-at, touched-yes}
 use Rattle.sheet.specs.Limits.{mostMarks, marksOk, amountOk, mostHeld}
-use Rattle.sheet.specs.Record.{Record, outOf, sheetOf}
-use Rattle.sheet.specs.Calls.{standing, fitsClass, fitsAmount, changeNo, amountNo, numberOn}
+use Rattle.sheet.specs.Record.{is, isEither, outs, eithers, Record, updated, outside-counts, either-counts, held-seconds, quantity, sheetOf}
+use Rattle.sheet.specs.Sound.{ownIn, tells}
+use Rattle.sheet.specs.Calls.{between, fitsCount, countsFit, fitsAmount, changeNo, amountNo, numberOn}
 use Rattle.sheet.specs.declared.Call.{Call}
-use Rattle.sheet.specs.declared.Call.the-variants.{Enter, Leave, Receive, Withdraw}
-use Rattle.sheet.proofs.Kept.{times-total}
-use Rattle.sheet.proofs.Tests.{change-2, change-3, change-0}
+use Rattle.sheet.specs.declared.Call.the-variants.{Change, Receive, Withdraw}
+use Rattle.sheet.specs.declared.Standing.{Standing}
+use Rattle.sheet.specs.declared.Standing.the-variants.{Either}
+use Rattle.sheet.proofs.Between.{between-shifts}
+use Rattle.sheet.proofs.Kept.{adds-one, tells-is, times-total}
+use Rattle.sheet.proofs.Tests.{change-2, change-3, change-12, change-0}
 use Rattle.histories.specs.Histories.{numberOf}
 
-out-in : (class : ℕ → Bool) (c : ℕ) → class c ≡ true → outOf class c ≡ 0
-out-in class c e = ap (λ (t : Bool). only (not t) 1) e
+-- what a combination adds to either count
 
-out-out : (class : ℕ → Bool) (c : ℕ) → class c ≡ false → outOf class c ≡ 1
-out-out class c e = ap (λ (t : Bool). only (not t) 1) e
+outs-le : (s : Standing) → outs s ≤ 1
+outs-le s = omega (arith, adds-one s)
 
-out-le : (class : ℕ → Bool) (c : ℕ) → outOf class c ≤ 1
-out-le class c = if (class c) (λ e. omega (arith, out-in class c e)) (λ e. omega (arith, out-out class c e))
+eithers-le : (s : Standing) → eithers s ≤ 1
+eithers-le s = omega (arith, adds-one s)
+
+-- a change of standing shifts what the combination adds, and nothing else
+pub changed-shifts : (m c : ℕ) (add : Standing → ℕ) (standing : ℕ → Standing) (to : Standing)
+    → ShiftsAt m c (between (add (standing c)) (add to)) (λ x. add (standing x)) (λ x. add (updated c to standing x))
+changed-shifts m c add standing to = record {
+  here = rw (eq-eqb c c refl) (between-shifts (add (standing c)) (add to));
+  others = λ x l n. rw (ne-eqb x c n);
+}
+
+-- a number that fits afterwards fits shifted
+fits-after : (by : Shift) (most x y : ℕ) → Shifts by x y → y ≤ most → fitsShifted by most x ≡ true
+fits-after Stays most x y h l = le-leb x most (omega arith)
+fits-after (Up d) most x y h l = le-leb (x + d) most (omega arith)
+fits-after (Down d) most x y h l = rw (le-leb d x (omega arith)) (le-leb (x - d) most (omega arith))
 
 module _ (n m : ℕ) (fits : 3 ^ m ≤ n) (c : ℕ) (low : c < 2 ^ m) where
   at : (f : ℕ → ℕ) (b : ℕ) → contains m b c ≡ true → entry (afresh n m f) b ≡ sumIn m b f
   at f b e = afresh-entry n m f b (omega (arith, contains-box m b c e))
 
-  -- class changes: a count that is right fits after the move
+  -- class changes: counts that are right fit after the move
 
-  enter-fits : (class : ℕ → Bool) → class c ≡ false → touched m c (fitsClass true m (afresh n m (outOf class))) ≡ true
-  unfolding fitsClass
-  enter-fits class out = touched-yes m c (fitsClass true m (afresh n m (outOf class))) (λ b e.
-      let x = entry (afresh n m (outOf class)) b in
-      let is = at (outOf class) b e in
-      let some = sumIn-term m b c (outOf class) e in
-      let most = sumIn-bound m b 1 (outOf class) (contains-box m b c e) (λ k l. out-le class k) in
-      rw (le-leb 1 x (omega (arith, out-out class c out))) (le-leb (x - 1) (2 ^ freeCount m b) (omega arith)))
+  module _ (add : Standing → ℕ) (one : (s : Standing) → add s ≤ 1) (standing : ℕ → Standing) (to : Standing) where
+    count-fits : (b : ℕ) → contains m b c ≡ true → fitsShifted (between (add (standing c)) (add to)) (2 ^ freeCount m b) (entry (afresh n m (λ x. add (standing x))) b) ≡ true
+    count-fits b e =
+        let by = between (add (standing c)) (add to) in
+        let moved = sum-shifts m c low b by _ _ (changed-shifts m c add standing to) e in
+        let most = sumIn-bound m b 1 (λ x. add (updated c to standing x)) (contains-box m b c e) (λ x l. one (updated c to standing x)) in
+        rw (at (λ x. add (standing x)) b e) (fits-after by (2 ^ freeCount m b) _ _ moved (omega arith))
 
-  -- were c out as well, the count would be one more
-  leave-fits : (class : ℕ → Bool) → class c ≡ true → touched m c (fitsClass false m (afresh n m (outOf class))) ≡ true
-  unfolding fitsClass
-  leave-fits class inside = touched-yes m c (fitsClass false m (afresh n m (outOf class))) (λ b e.
-      let f = outOf class in
-      let out : ℕ → ℕ = λ x. f x + only (eqb x c) 1 in
-      let more = sumIn-change m b f out c 1 low (λ x l d. rw (ne-eqb x c d) (omega arith)) (rw (eq-eqb c c refl)) in
-      let most = sumIn-bound m b 1 out (contains-box m b c e) (λ x l. same-or x c
-      (λ q. omega (arith, ap out q, ap (λ (t : Bool). f c + only t 1) (eq-eqb c c refl), out-in class c inside))
-      (λ d. omega (arith, ap (λ (t : Bool). f x + only t 1) (ne-eqb x c d), out-le class x))) in
-      le-leb (entry (afresh n m f) b + 1) (2 ^ freeCount m b) (omega (arith, at f b e, ap (λ (t : Bool). only t 1) e)))
-
-  class-fits : (into : Bool) (class : ℕ → Bool) → class c ≡ not into → touched m c (fitsClass into m (afresh n m (outOf class))) ≡ true
-  class-fits true class e = enter-fits class e
-  class-fits false class e = leave-fits class e
+    counts-fit : touched m c (fitsCount m (between (own m (afresh n m (λ x. add (standing x))) c) (add to)) (afresh n m (λ x. add (standing x)))) ≡ true
+    unfolding fitsCount
+    counts-fit = rw (afresh-own n m (λ x. add (standing x)) fits c low) (touched-yes m c (fitsCount m (between (add (standing c)) (add to)) (afresh n m (λ x. add (standing x)))) count-fits)
 
   -- receipts and withdrawals: the all-free box decides, or the single one
 
@@ -94,50 +102,54 @@ module _ (n m : ℕ) (fits : 3 ^ m ≤ n) (c : ℕ) (low : c < 2 ^ m) where
 
 -- the numbers, from the record alone
 
-stood : (into : Bool) (class : ℕ → Bool) (c : ℕ) → eqb (outOf class c) (standing into) ≡ cond into (class c) (not (class c))
-stood into class c = if (class c) (λ e. rw e (stood-in into)) (λ e. rw e (stood-out into))
-  where
-    stood-in : (i : Bool) → eqb 0 (standing i) ≡ cond i true false
-    stood-in true = refl
-    stood-in false = refl
-
-    stood-out : (i : Bool) → eqb 1 (standing i) ≡ cond i false true
-    stood-out true = refl
-    stood-out false = refl
-
-not-standing : (into e : Bool) → cond into e (not e) ≡ false → e ≡ not into
-not-standing true e h = h
-not-standing false e h = not-false e h
-
 module _ (n : ℕ) (r : Record) (fits : 3 ^ r .marks ≤ n) (marks : marksOk mostMarks (r .marks) ≡ true) (c : ℕ) where
-  class-number : (into : Bool) → changeNo mostMarks into (r .marks) (afresh n (r .marks) (outOf (r .class))) c
-      ≡ cond (leb (2 ^ r .marks) c) 2 (cond (cond into (r .class c) (not (r .class c))) 3 0)
-  class-number into =
-      let m = r .marks in
-      let class = r .class in
-      let t = afresh n m (outOf class) in
-      below-or c (2 ^ m)
-      (λ low.
-      let is = afresh-own n m (outOf class) fits c low in
-      let one : own m t c ≤ 1 = omega (arith, out-le class c) in
-      let stands : eqb (own m t c) (standing into) ≡ cond into (class c) (not (class c)) = ap (λ (x : ℕ). eqb x (standing into)) is ∙ stood into class c in
-      rw (lt-leb (2 ^ m) c low)
-      (if (cond into (class c) (not (class c)))
-      (λ e. change-3 mostMarks into m t c marks low one (stands ∙ e) ∙ rw e)
-      (λ e. change-0 mostMarks into m t c marks low one (stands ∙ e) (class-fits n m fits c low into class (not-standing into (class c) e)) ∙ rw e)))
-      (λ l. change-2 mostMarks into m t c marks l ∙ rw (le-leb (2 ^ m) c l))
+  -- the own numbers of a combination are those of the record
+  module _ (low : c < 2 ^ r .marks) where
+    pub own-outs : ownIn outside-counts (sheetOf n r) c ≡ outs (r .standing c)
+    own-outs = afresh-own n (r .marks) (quantity outside-counts r) fits c low
 
-  amount-number : (more : Bool) (d : ℕ) → amountNo mostMarks more (r .marks) (afresh n (r .marks) (r .times)) c d
-      ≡ cond (leb (2 ^ r .marks) c) 2 (cond (not (amountOk d)) 4 (cond (not (cond more (leb (sum (2 ^ r .marks) (r .times) + d) mostHeld) (leb d (r .times c)))) (cond more 8 9) 0))
+    pub own-eithers : ownIn either-counts (sheetOf n r) c ≡ eithers (r .standing c)
+    own-eithers = afresh-own n (r .marks) (quantity either-counts r) fits c low
+
+    own-held : ownIn held-seconds (sheetOf n r) c ≡ r .times c
+    own-held = afresh-own n (r .marks) (r .times) fits c low
+
+    told : (to : Standing) → tells to (ownIn outside-counts (sheetOf n r) c) (ownIn either-counts (sheetOf n r) c) ≡ is to (r .standing c)
+    told to = ap₂ (tells to) own-outs own-eithers ∙ tells-is to (r .standing c)
+
+    both-fit : (to : Standing) → countsFit to (sheetOf n r) c ≡ true
+    both-fit to = rw (counts-fit n (r .marks) fits c low outs outs-le (r .standing) to, counts-fit n (r .marks) fits c low eithers eithers-le (r .standing) to)
+
+    class-below : (to : Standing) → changeNo mostMarks to (sheetOf n r) c ≡ cond (is to (r .standing c)) 3 (cond (isEither to && ltb 0 (r .times c)) 12 0)
+    class-below to =
+        let s = sheetOf n r in
+        let one : ownIn outside-counts s c + ownIn either-counts s c ≤ 1 = omega (arith, own-outs, own-eithers, adds-one (r .standing c)) in
+        let kept : (isEither to && ltb 0 (ownIn held-seconds s c)) ≡ (isEither to && ltb 0 (r .times c)) = ap (λ (x : ℕ). isEither to && ltb 0 x) own-held in
+        if (is to (r .standing c))
+        (λ e. change-3 mostMarks to s c marks low one (told to ∙ e) ∙ rw e)
+        (λ e. if (isEither to && ltb 0 (r .times c))
+        (λ f. change-12 mostMarks to s c marks low one (told to ∙ e) (kept ∙ f) ∙ rw (e, f))
+        (λ f. change-0 mostMarks to s c marks low one (told to ∙ e) (kept ∙ f) (both-fit to) ∙ rw (e, f)))
+
+  class-number : (to : Standing) → changeNo mostMarks to (sheetOf n r) c
+      ≡ cond (leb (2 ^ r .marks) c) 2 (cond (is to (r .standing c)) 3 (cond (isEither to && ltb 0 (r .times c)) 12 0))
+  class-number to =
+      below-or c (2 ^ r .marks)
+      (λ low. class-below low to ∙ rw (lt-leb (2 ^ r .marks) c low))
+      (λ l. change-2 mostMarks to (sheetOf n r) c marks l ∙ rw (le-leb (2 ^ r .marks) c l))
+
+  amount-number : (more : Bool) (d : ℕ) → amountNo mostMarks more (sheetOf n r) c d
+      ≡ cond (leb (2 ^ r .marks) c) 2
+      (cond (not (amountOk d)) 4
+      (cond (more && isEither (r .standing c)) 12 (cond (not (cond more (leb (sum (2 ^ r .marks) (r .times) + d) mostHeld) (leb d (r .times c)))) (cond more 8 9) 0)))
   unfolding amountNo
   amount-number more d =
       below-or c (2 ^ r .marks)
-      (λ low. rw (marks, amount-judged n (r .marks) fits c low more (r .times) d))
+      (λ low. rw (marks, told low Either, amount-judged n (r .marks) fits c low more (r .times) d))
       (λ l. rw (marks, le-leb (2 ^ r .marks) c l))
 
 -- THE NUMBER OF A CALL on the sheet worked out afresh
 pub number-afresh : (n : ℕ) (r : Record) → 3 ^ r .marks ≤ n → marksOk mostMarks (r .marks) ≡ true → (k : Call) → numberOn mostMarks (sheetOf n r) k ≡ numberOf r k
-number-afresh n r fits marks (Enter c) = class-number n r fits marks c true
-number-afresh n r fits marks (Leave c) = class-number n r fits marks c false
+number-afresh n r fits marks (Change to c) = class-number n r fits marks c to
 number-afresh n r fits marks (Receive c d) = amount-number n r fits marks c true d
 number-afresh n r fits marks (Withdraw c d) = amount-number n r fits marks c false d

@@ -1,39 +1,43 @@
--- Demand 3. A history is a record of marks, class and times, and the calls made since; what it comes to is worked out from the record and the
+-- Demand 3. A history is a record of marks, standings and times, and the calls made since; what it comes to is worked out from the record and the
 -- calls alone, never from a kept number.
 use Prim.Native.Nat.{ℕ, _+_, _-_, _^_, _<_, _≤_}
 use mathlib.Core.Path.{_≡_}
-use mathlib.Core.Bool.{true, not, cond, _&&_, _||_}
+use mathlib.Core.Bool.{true, false, not, cond, _&&_}
 use mathlib.Core.List.{List, [], _∷_, _++_}
 use lib.ListN.{length, drop}
-use lib.Dec.{eqb, leb}
+use lib.Dec.{eqb, leb, ltb}
 use Rattle.boxes.specs.Sums.{sum, only}
 use Rattle.sheet.specs.Limits.{mostMarks, mostHeld, marksOk, amountOk}
-use Rattle.sheet.specs.Record.{Record, withClass, withTimes}
+use Rattle.sheet.specs.Record.{is, isOut, isEither, Record, withStanding, withTimes, updated, inClass, notOut}
 use Rattle.sheet.specs.Calls.{didOf}
 use Rattle.sheet.specs.declared.Sheet.{Sheet}
 use Rattle.sheet.specs.declared.Value.{Value}
 use Rattle.lists.specs.Lists.{FirstShortest}
 use Rattle.sheet.specs.declared.Call.{Call}
-use Rattle.sheet.specs.declared.Call.the-variants.{Enter, Leave, Receive, Withdraw}
+use Rattle.sheet.specs.declared.Call.the-variants.{Change, Receive, Withdraw}
 
--- a record that a sheet can have: 1 to 5 marks, no combination that is none in the class, at most 4,000,000,000 seconds
+-- a record that a sheet can have: 1 to 5 marks, every number that is no combination out, at most 4,000,000,000 seconds, and none under an either
+-- combination
 pub record Good (r : Record) : Type 0 where
   pub marks : marksOk mostMarks (r .marks) ≡ true
-  pub class : (c : ℕ) → r .class c ≡ true → c < 2 ^ r .marks
+  pub standing : (c : ℕ) → isOut (r .standing c) ≡ false → c < 2 ^ r .marks
   pub times : sum (2 ^ r .marks) (r .times) ≤ mostHeld
+  pub apart : (c : ℕ) → isEither (r .standing c) ≡ true → r .times c ≡ 0
 
 -- the number of a call, from the record alone: 7 never comes
 abbrev pub numberOf : Record → Call → ℕ
-numberOf r (Enter c) = cond (leb (2 ^ r .marks) c) 2 (cond (r .class c) 3 0)
-numberOf r (Leave c) = cond (leb (2 ^ r .marks) c) 2 (cond (not (r .class c)) 3 0)
+numberOf r (Change to c) =
+    cond (leb (2 ^ r .marks) c) 2 (cond (is to (r .standing c)) 3 (cond (isEither to && ltb 0 (r .times c)) 12 0))
 numberOf r (Receive c d) =
-    cond (leb (2 ^ r .marks) c) 2 (cond (not (amountOk d)) 4 (cond (not (leb (sum (2 ^ r .marks) (r .times) + d) mostHeld)) 8 0))
+    cond (leb (2 ^ r .marks) c) 2
+    (cond (not (amountOk d)) 4
+    (cond (isEither (r .standing c)) 12
+    (cond (not (leb (sum (2 ^ r .marks) (r .times) + d) mostHeld)) 8 0)))
 numberOf r (Withdraw c d) = cond (leb (2 ^ r .marks) c) 2 (cond (not (amountOk d)) 4 (cond (not (leb d (r .times c))) 9 0))
 
 -- the record after an accepted call
 abbrev pub accepted : Record → Call → Record
-accepted r (Enter c) = withClass (λ x. r .class x || eqb x c) r
-accepted r (Leave c) = withClass (λ x. r .class x && not (eqb x c)) r
+accepted r (Change to c) = withStanding (updated c to (r .standing)) r
 accepted r (Receive c d) = withTimes (λ x. r .times x + only (eqb x c) d) r
 accepted r (Withdraw c d) = withTimes (λ x. r .times x - only (eqb x c) d) r
 
@@ -58,10 +62,10 @@ sheetAfter s k = didOf mostMarks s k .sheet
 abbrev pub numberGiven : Sheet → Call → ℕ
 numberGiven s k = didOf mostMarks s k .number
 
--- the list of the record's class in a lent area: the number 0 with the length of the first shortest list, which stands at the front, and the bytes
+-- the list of the record in a lent area: the number 0 with the length of the first shortest list, which stands at the front, and the bytes
 -- behind it as they were
 pub record Given (r : Record) (area : List ℕ) (v : Value) (later : List ℕ) : Type 0 where
   pub list : List ℕ
-  pub right : FirstShortest (r .marks) (r .class) (r .class) list
+  pub right : FirstShortest (r .marks) (inClass r) (notOut r) list
   pub value : v ≡ record { number = 0; value = length list }
   pub stands : later ≡ list ++ drop (length list) area

@@ -11,7 +11,7 @@ use Rattle.ground.proofs.Cases.{clash}
 use Rattle.tables.specs.Tables.{entry, own, afresh}
 use Rattle.tables.proofs.Entries.{afresh-own, afresh-sums, afresh-entry}
 use Rattle.sheet.specs.Limits.{mostHeld}
-use Rattle.sheet.specs.Record.{isEither, outs, eithers}
+use Rattle.sheet.specs.Record.{is, isEither, outs, eithers}
 use Rattle.sheet.specs.Sound.{tells, toldBy, ClassSound, TimesSound}
 use Rattle.sheet.specs.declared.Standing.{Standing}
 use Rattle.sheet.specs.declared.Standing.the-variants.{In, Out, Either}
@@ -28,10 +28,19 @@ told-back In = refl
 told-back Out = refl
 told-back Either = refl
 
+pub tells-is : (a s : Standing) → tells a (outs s) (eithers s) ≡ is a s
+tells-is In In = refl
+tells-is In Out = refl
+tells-is In Either = refl
+tells-is Out In = refl
+tells-is Out Out = refl
+tells-is Out Either = refl
+tells-is Either In = refl
+tells-is Either Out = refl
+tells-is Either Either = refl
+
 pub tells-either : (s : Standing) → tells Either (outs s) (eithers s) ≡ isEither s
-tells-either In = refl
-tells-either Out = refl
-tells-either Either = refl
+tells-either s = tells-is Either s
 
 module _ (n m : ℕ) (fits : 3 ^ m ≤ n) where
   module _ (standing : ℕ → Standing) where

@@ -2,6 +2,7 @@
 -- Each table of a sheet keeps the sums, over the combinations of each box, of one quantity of the record.
 use Prim.Native.Nat.{ℕ}
 use mathlib.Core.Bool.{Bool, true, false, not, cond}
+use mathlib.Core.Path.{_≡_}
 use mathlib.Core.List.{List}
 use lib.Dec.{eqb}
 use Rattle.tables.specs.Tables.{afresh}
@@ -65,6 +66,10 @@ inClass r c = isIn (r .standing c)
 
 abbrev pub notOut : Record → ℕ → Bool
 notOut r c = not (isOut (r .standing c))
+
+-- no combination is either: a record as 01 knows it
+abbrev pub NoneEither : Record → Type 0
+NoneEither r = (c : ℕ) → isEither (r .standing c) ≡ false
 
 -- an opened sheet's: every combination out, and nothing held
 abbrev pub opened : ℕ → Record
