@@ -17,7 +17,7 @@
  *         none of them is either
  *
  * What stands in neither of the first two sections is out. Up to version 2 the form had no section of either combinations: vault_from_form1 reads such
- * bytes, every other entry today's alone. Nothing guesses which of the two bytes are in, and nothing could, since some are both (see there).
+ * bytes, every other entry today's alone. Nothing guesses in which of the two forms bytes are, and nothing could, since some are both (see there).
  *
  * An entry that changes a sheet takes the old stored form in one area and writes the new one to another, which the program takes for the
  * sheet from then on: never in place. Nothing else is kept: no memory is allocated, there is no state between calls, and nothing is locked, so
