@@ -1,4 +1,4 @@
-/* Entries of vault.h in plain C. First the shortest way: a sheet is read as a set of combinations and their seconds, and no numbers are kept. */
+/* Entries of vault.h in plain C. First the shortest way: a sheet is read as sets of combinations and their seconds, and no numbers are kept. */
 #include "plain_vault.h"
 #include "plain_seek.h"
 #include <stdbool.h>
@@ -6,7 +6,7 @@
 
 struct sheet {
     unsigned marks, size;
-    uint32_t class, held[VAULT_MOST_COMBINATIONS];
+    uint32_t class, either, held[VAULT_MOST_COMBINATIONS];
     uint64_t sum;
 };
 
@@ -26,7 +26,10 @@ static uint32_t low_first(const uint8_t *p, unsigned n)
 
 /* ---- the stored form */
 
-static struct vault_reply section(struct sheet *s, const uint8_t *t, size_t n, size_t *at, bool held)
+enum section { CLASS, EITHER, HELD };
+
+/* A section, none of whose combinations is in the set that is barred. */
+static struct vault_reply section(struct sheet *s, const uint8_t *t, size_t n, size_t *at, enum section kind, uint32_t barred)
 {
     if (n - *at < 2)
         return reply(VAULT_UNREADABLE, n, 0);
@@ -35,12 +38,12 @@ static struct vault_reply section(struct sheet *s, const uint8_t *t, size_t n, s
         return reply(VAULT_UNREADABLE, *at, 0);
     *at += 2;
     for (unsigned low = 0; count-- > 0;) {
-        if (*at == n || t[*at] < low || t[*at] >= s->size)
+        if (*at == n || t[*at] < low || t[*at] >= s->size || (barred >> t[*at] & 1))
             return reply(VAULT_UNREADABLE, *at, 0);
         unsigned c = t[(*at)++];
         low = c + 1;
-        if (!held) {
-            s->class |= UINT32_C(1) << c;
+        if (kind != HELD) {
+            *(kind == CLASS ? &s->class : &s->either) |= UINT32_C(1) << c;
             continue;
         }
         if (n - *at < 4)
@@ -64,28 +67,36 @@ static struct vault_reply get(struct sheet *s, const uint8_t *t, size_t n)
         return reply(VAULT_MARKS, 0, 0);
     s->marks = t[0];
     s->size = 1u << s->marks;
-    struct vault_reply r = section(s, t, n, &at, false);
+    struct vault_reply r = section(s, t, n, &at, CLASS, 0);
     if (r.answer == VAULT_DONE)
-        r = section(s, t, n, &at, true);
+        r = section(s, t, n, &at, EITHER, s->class);
+    if (r.answer == VAULT_DONE)
+        r = section(s, t, n, &at, HELD, s->either);
     if (r.answer == VAULT_DONE && at < n)
         r = reply(VAULT_UNREADABLE, at, 0);
     return r;
 }
 
+static uint8_t *put_set(uint32_t set, uint8_t *p)
+{
+    *p++ = (uint8_t)__builtin_popcount(set);
+    *p++ = 0;
+    for (unsigned c = 0; set != 0; c++, set >>= 1)
+        if (set & 1)
+            *p++ = (uint8_t)c;
+    return p;
+}
+
 static struct vault_reply put(const struct sheet *s, uint8_t *out, size_t room)
 {
-    unsigned in = (unsigned)__builtin_popcount(s->class), held = 0;
+    unsigned standing = (unsigned)__builtin_popcount(s->class | s->either), held = 0;
     for (unsigned c = 0; c < s->size; c++)
         held += s->held[c] != 0;
-    if (room < 5 + in + 5 * held)
+    if (room < 7 + standing + 5 * held)
         return reply(VAULT_ROOM, 0, 0);
     uint8_t *p = out;
     *p++ = (uint8_t)s->marks;
-    *p++ = (uint8_t)in;
-    *p++ = 0;
-    for (unsigned c = 0; c < s->size; c++)
-        if (s->class >> c & 1)
-            *p++ = (uint8_t)c;
+    p = put_set(s->either, put_set(s->class, p));
     *p++ = (uint8_t)held;
     *p++ = 0;
     for (unsigned c = 0; c < s->size; c++)
@@ -118,6 +129,8 @@ struct vault_reply plain_receive(const uint8_t *sheet, size_t n, uint64_t c, uin
     struct vault_reply r = movement(&s, sheet, n, c, seconds);
     if (r.answer != VAULT_DONE)
         return r;
+    if (s.either >> c & 1)
+        return reply(VAULT_EITHER, 0, 0);
     if (s.sum + seconds > VAULT_MOST_HELD)
         return reply(VAULT_ABOVE, 0, 0);
     s.held[c] += (uint32_t)seconds;
@@ -131,13 +144,14 @@ struct vault_reply plain_copy(const uint8_t *sheet, size_t n, uint8_t *out, size
     return r.answer == VAULT_DONE ? put(&s, out, room) : r;
 }
 
-static struct vault_reply searched(unsigned marks, uint32_t class, uint8_t *list, size_t room)
+/* The list of a class, whose lines may contain the either combinations too. */
+static struct vault_reply searched(unsigned marks, uint32_t class, uint32_t either, uint8_t *list, size_t room)
 {
     uint8_t own[VAULT_LIST_SIZE + 1];
     uint64_t laid = 0;
     if (room < VAULT_COMBINATIONS(marks))
         return reply(VAULT_ROOM, 0, 0);
-    size_t k = plain_shortest(marks, class, class, own, &laid);
+    size_t k = plain_shortest(marks, class, class | either, own, &laid);
     if (k == 0)
         return reply(VAULT_NO_LIST, 0, 0);
     memcpy(list, own, k - 1);
@@ -148,7 +162,7 @@ struct vault_reply plain_list(const uint8_t *sheet, size_t n, uint8_t *list, siz
 {
     struct sheet s;
     struct vault_reply r = get(&s, sheet, n);
-    return r.answer == VAULT_DONE ? searched(s.marks, s.class, list, room) : r;
+    return r.answer == VAULT_DONE ? searched(s.marks, s.class, s.either, list, room) : r;
 }
 
 struct vault_reply plain_class_size(const uint8_t *sheet, size_t n)
@@ -184,10 +198,10 @@ static struct vault_verdict verdict(struct vault_reply read, uint64_t fault, uin
     return v;
 }
 
-static struct vault_verdict checked(struct vault_reply read, unsigned marks, uint32_t class, const uint8_t *list, size_t n)
+static struct vault_verdict checked(struct vault_reply read, unsigned marks, uint32_t class, uint32_t either, const uint8_t *list, size_t n)
 {
     size_t leaves = n;
-    uint32_t covered = 0;
+    uint32_t covered = 0, room = class | either;
     for (size_t i = 0; i < n; i++)
         if (list[i] >= VAULT_LINES(marks))
             return verdict(read, VAULT_NO_BOX, i);
@@ -195,13 +209,13 @@ static struct vault_verdict checked(struct vault_reply read, unsigned marks, uin
         uint32_t set = set_of(marks, list[i]);
         if ((set & covered) != 0)
             return verdict(read, VAULT_OVERLAP, i);
-        if ((set & ~class) != 0 && leaves == n)
+        if ((set & ~room) != 0 && leaves == n)
             leaves = i;
         covered |= set;
     }
     if (leaves < n)
         return verdict(read, VAULT_LEAVES, leaves);
-    if (covered != class)
+    if ((class & ~covered) != 0)
         return verdict(read, VAULT_UNCOVERED, (uint64_t)__builtin_ctz(class & ~covered));
     return verdict(read, VAULT_FITS, 0);
 }
@@ -210,7 +224,7 @@ struct vault_verdict plain_check_list(const uint8_t *sheet, size_t n, const uint
 {
     struct sheet s;
     struct vault_reply r = get(&s, sheet, n);
-    return r.answer == VAULT_DONE ? checked(r, s.marks, s.class, list, lines) : verdict(r, VAULT_FITS, 0);
+    return r.answer == VAULT_DONE ? checked(r, s.marks, s.class, s.either, list, lines) : verdict(r, VAULT_FITS, 0);
 }
 
 /* ---- PLA texts, in one pass */
@@ -390,10 +404,10 @@ static struct vault_reply put_pla(unsigned marks, const uint8_t *list, size_t k,
     return reply(VAULT_DONE, 0, n);
 }
 
-static struct vault_reply written(unsigned marks, uint32_t class, void *out, size_t room)
+static struct vault_reply written(unsigned marks, uint32_t class, uint32_t either, void *out, size_t room)
 {
     uint8_t list[VAULT_LIST_SIZE];
-    struct vault_reply r = searched(marks, class, list, sizeof list);
+    struct vault_reply r = searched(marks, class, either, list, sizeof list);
     return r.answer == VAULT_DONE ? put_pla(marks, list, r.value, out, room) : r;
 }
 
@@ -408,14 +422,14 @@ struct vault_reply plain_write_pla(const uint8_t *sheet, size_t n, void *out, si
 {
     struct sheet s;
     struct vault_reply r = get(&s, sheet, n);
-    return r.answer == VAULT_DONE ? written(s.marks, s.class, out, room) : r;
+    return r.answer == VAULT_DONE ? written(s.marks, s.class, s.either, out, room) : r;
 }
 
-/* ---- the same by the library's steps: two numbers are kept of every line, and all that is told or written is taken from them */
+/* ---- the same by the library's steps: three numbers are kept of every line, and all that is told or written is taken from them */
 
 struct kept {
     unsigned marks, size;
-    uint32_t outside[VAULT_MOST_LINES], held[VAULT_MOST_LINES];
+    uint32_t outside[VAULT_MOST_LINES], either[VAULT_MOST_LINES], held[VAULT_MOST_LINES];
 };
 
 /* The line of a combination alone, four marks at a time. */
@@ -441,13 +455,16 @@ static void fill(unsigned marks, const uint32_t *own, uint32_t *t)
 
 static void work_out(struct kept *k, const struct sheet *s)
 {
-    uint32_t out[VAULT_MOST_COMBINATIONS];
+    uint32_t out[VAULT_MOST_COMBINATIONS], either[VAULT_MOST_COMBINATIONS];
     memset(k, 0, sizeof *k);
     k->marks = s->marks;
     k->size = s->size;
-    for (unsigned c = 0; c < s->size; c++)
-        out[c] = !(s->class >> c & 1);
+    for (unsigned c = 0; c < s->size; c++) {
+        either[c] = s->either >> c & 1;
+        out[c] = !((s->class | s->either) >> c & 1);
+    }
     fill(s->marks, out, k->outside);
+    fill(s->marks, either, k->either);
     fill(s->marks, s->held, k->held);
 }
 
@@ -460,46 +477,47 @@ static struct vault_reply get_kept(struct kept *k, const uint8_t *t, size_t n)
     return r;
 }
 
+/* The combinations whose own number in a table is not 0. */
+static uint32_t set_in(const struct kept *k, const uint32_t *t)
+{
+    uint32_t set = 0;
+    for (unsigned c = 0; c < k->size; c++)
+        set |= (uint32_t)(t[single(c)] != 0) << c;
+    return set;
+}
+
+/* The combinations that are neither out nor either. */
 static uint32_t class_of(const struct kept *k)
 {
     uint32_t class = 0;
     for (unsigned c = 0; c < k->size; c++)
-        class |= (uint32_t)(k->outside[single(c)] == 0) << c;
+        class |= (uint32_t)(k->outside[single(c)] == 0 && k->either[single(c)] == 0) << c;
     return class;
 }
 
-static unsigned count(const struct kept *k, const uint32_t *t, uint32_t unset)
+/* The section of what is held: each combination with its own number behind it. */
+static uint8_t *put_held(const struct kept *k, uint32_t set, uint8_t *p)
 {
-    unsigned n = 0;
-    for (unsigned c = 0; c < k->size; c++)
-        n += t[single(c)] != unset;
-    return n;
-}
-
-/* A section of n combinations, the number that each has of its own in some bytes behind it. */
-static uint8_t *put_section(const struct kept *k, const uint32_t *t, uint32_t unset, unsigned n, unsigned behind, uint8_t *p)
-{
-    *p++ = (uint8_t)n;
+    *p++ = (uint8_t)__builtin_popcount(set);
     *p++ = 0;
     for (unsigned c = 0; c < k->size; c++) {
-        uint32_t x = t[single(c)];
-        if (x == unset)
+        uint32_t seconds = k->held[single(c)];
+        if (seconds == 0)
             continue;
         *p++ = (uint8_t)c;
-        for (unsigned i = 0; i < behind; i++)
-            *p++ = (uint8_t)(x >> 8 * i);
+        for (unsigned i = 0; i < 4; i++)
+            *p++ = (uint8_t)(seconds >> 8 * i);
     }
     return p;
 }
 
 static struct vault_reply put_kept(const struct kept *k, uint8_t *out, size_t room)
 {
-    unsigned in = count(k, k->outside, 1), held = count(k, k->held, 0);
-    if (room < 5 + in + 5 * held)
+    uint32_t class = class_of(k), either = set_in(k, k->either), held = set_in(k, k->held);
+    if (room < 7 + (unsigned)__builtin_popcount(class | either) + 5 * (unsigned)__builtin_popcount(held))
         return reply(VAULT_ROOM, 0, 0);
     out[0] = (uint8_t)k->marks;
-    uint8_t *p = put_section(k, k->outside, 1, in, 0, out + 1);
-    p = put_section(k, k->held, 0, held, 4, p);
+    uint8_t *p = put_held(k, held, put_set(either, put_set(class, out + 1)));
     return reply(VAULT_DONE, 0, (uint64_t)(p - out));
 }
 
@@ -520,6 +538,8 @@ struct vault_reply tables_receive(const uint8_t *sheet, size_t n, uint64_t c, ui
     if (r.answer != VAULT_DONE)
         return r;
     work_out(&k, &s);
+    if (k.either[single((unsigned)c)] != 0)
+        return reply(VAULT_EITHER, 0, 0);
     uint16_t all[VAULT_COMBINATIONS(VAULT_MOST_MARKS)];
     all_through(s.marks, (unsigned)c, all);
     for (unsigned free = 0; free < s.size; free++)
@@ -542,21 +562,24 @@ struct vault_reply tables_list(const uint8_t *sheet, size_t n, uint8_t *list, si
 {
     struct kept k;
     struct vault_reply r = get_kept(&k, sheet, n);
-    return r.answer == VAULT_DONE ? searched(k.marks, class_of(&k), list, room) : r;
+    return r.answer == VAULT_DONE ? searched(k.marks, class_of(&k), set_in(&k, k.either), list, room) : r;
 }
 
 struct vault_verdict tables_check_list(const uint8_t *sheet, size_t n, const uint8_t *list, size_t lines)
 {
     struct kept k;
     struct vault_reply r = get_kept(&k, sheet, n);
-    return r.answer == VAULT_DONE ? checked(r, k.marks, class_of(&k), list, lines) : verdict(r, VAULT_FITS, 0);
+    if (r.answer != VAULT_DONE)
+        return verdict(r, VAULT_FITS, 0);
+    return checked(r, k.marks, class_of(&k), set_in(&k, k.either), list, lines);
 }
 
 struct vault_reply tables_class_size(const uint8_t *sheet, size_t n)
 {
     struct kept k;
     struct vault_reply r = get_kept(&k, sheet, n);
-    return r.answer == VAULT_DONE ? reply(VAULT_DONE, 0, k.size - k.outside[VAULT_LINES(k.marks) - 1]) : r;
+    unsigned all = r.answer == VAULT_DONE ? VAULT_LINES(k.marks) - 1 : 0;
+    return r.answer == VAULT_DONE ? reply(VAULT_DONE, 0, k.size - k.outside[all] - k.either[all]) : r;
 }
 
 struct vault_reply tables_total(const uint8_t *sheet, size_t n)
@@ -565,7 +588,7 @@ struct vault_reply tables_total(const uint8_t *sheet, size_t n)
     struct vault_reply r = get_kept(&k, sheet, n);
     for (unsigned c = 0; r.answer == VAULT_DONE && c < k.size; c++) {
         unsigned b = single(c);
-        r.value += k.outside[b] == 0 ? k.held[b] : 0;
+        r.value += k.outside[b] == 0 && k.either[b] == 0 ? k.held[b] : 0;
     }
     return r;
 }
@@ -585,5 +608,5 @@ struct vault_reply tables_write_pla(const uint8_t *sheet, size_t n, void *out, s
 {
     struct kept k;
     struct vault_reply r = get_kept(&k, sheet, n);
-    return r.answer == VAULT_DONE ? written(k.marks, class_of(&k), out, room) : r;
+    return r.answer == VAULT_DONE ? written(k.marks, class_of(&k), set_in(&k, k.either), out, room) : r;
 }

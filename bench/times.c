@@ -58,6 +58,8 @@ static void make(struct form *f, uint32_t class, uint32_t held)
     for (int c = 0; c < 32; c++)
         if (class >> c & 1)
             *p++ = (uint8_t)c;
+    *p++ = 0; /* no either combinations */
+    *p++ = 0;
     *p++ = (uint8_t)__builtin_popcount(held);
     *p++ = 0;
     for (int c = 0; c < 32; c++)

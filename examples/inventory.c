@@ -2,14 +2,16 @@
 
        inventory SHEET MARKS MOVEMENTS
 
-   Line 1 of MOVEMENTS is `night N`. Then each line is a movement, `in P`, `out P`, `recv P T` or `gone P T`, with one space between parts: P has a
-   character 0 or 1 for each of the MARKS marks, the highest first, and T is a running time, in minutes such as 90:00 or in hours such as 1:30:00. A
-   movement that is refused is printed with its line and the cause, and the rest go on. Times are printed in minutes.
+   Line 1 of MOVEMENTS is `night N`. Then each line is a movement, `in P`, `out P`, `either P`, `recv P T` or `gone P T`, with one space between parts: P
+   has a character 0 or 1 for each of the MARKS marks, the highest first, and T is a running time, in minutes such as 90:00 or in hours such as 1:30:00.
+   Either is a combination that no can could have. A movement that is refused is printed with its line and the cause, and the rest go on. Times are
+   printed in minutes.
 
    Nights are numbered from 1, and each is made once. SHEET has the number of the last night made and the sheet's stored form in one file, which is
    replaced as a whole: written beside it, brought to the disk, renamed. So the night is made or not made, wherever a power cut comes, and can be
    run again: if its number is in the file already, nothing is made and the lines are printed. Any number but that one and the next is refused.
-   If there is no file, night 1 opens a sheet. SHEET.lock keeps out a second run; it stays there, empty.
+   If there is no file, night 1 opens a sheet. A file that was kept by version 2 or before is rewritten first, once, by examples/convert.c. SHEET.lock
+   keeps out a second run; it stays there, empty.
 
    Exit status: 0 done; 1 done, and some movement was refused; 2 not done, with the cause on standard error: run the same night again.
    Nothing is kept before all that is printed has been written. */
@@ -224,6 +226,16 @@ static uint64_t combination(struct text p, size_t marks)
     return c;
 }
 
+/* A change of standing. */
+static uint64_t change(struct vault_sheet *s, struct text word, uint64_t c)
+{
+    if (is(word, "in"))
+        return vault_sheet_enter(s, c).answer;
+    if (is(word, "out"))
+        return vault_sheet_leave(s, c).answer;
+    return is(word, "either") ? vault_sheet_make_either(s, c).answer : VAULT_UNREADABLE;
+}
+
 /* One movement. Its answer is the library's, or VAULT_UNREADABLE for a line that is none. */
 static uint64_t movement(struct vault_sheet *s, struct text line)
 {
@@ -233,7 +245,7 @@ static uint64_t movement(struct vault_sheet *s, struct text line)
         return VAULT_UNREADABLE;
     uint64_t c = combination(part[1], vault_sheet_marks(s));
     if (parts == 2)
-        return is(part[0], "in") ? vault_sheet_enter(s, c).answer : is(part[0], "out") ? vault_sheet_leave(s, c).answer : VAULT_UNREADABLE;
+        return change(s, part[0], c);
     struct vault_time time = vault_read_time(part[2].start, part[2].size); /* in either form: seconds are seconds */
     if (time.answer != VAULT_DONE)
         return time.answer;

@@ -4,7 +4,8 @@
 
    A list is a text with one pattern a line, such as 1-0, in any order; the last newline may be missing. Of each list one line is printed: that it
    fits, or what is wrong. That is the first line that is no pattern; else the first that overlaps an earlier one; else the first that leaves the
-   class; else the lowest combination of the class that no line contains.
+   class; else the lowest combination of the class that no line contains. A PLA text draws no either combination, so that what is not in the class
+   is out.
 
    Exit status: 0 each list fits; 1 some list does not; 2 the class or some list cannot be read, or what is printed cannot be written; with the cause
    on standard error. A list that cannot be read does not keep the others from being checked. */

@@ -1,17 +1,23 @@
 /*
  * vault.h: the shelf lists of the film vault, for C99 and C++. vault(3) is its manual page, and vault_util.h has what a caller writes around it.
  *
- * A sheet says, for 1 to 5 marks, which combinations of marks are in the class and how many seconds of film each combination holds. A
- * combination is the sum of 2^i over the marks i that are on, 0 to 2^m - 1. A line is a box: each mark has a digit, 0 off, 1 on, 2 free, and the
- * line's number is the sum of digit * 3^i, 0 to 3^m - 1; it contains every combination that agrees with its digits 0 and 1. The list of a
- * class is the shortest list of lines that together contain the class and nothing else, no combination twice, in rising order of each line's lowest
- * combination, and the first such list by line numbers.
+ * A sheet says, for 1 to 5 marks, how each combination of marks stands and how many seconds of film it holds. A combination is the sum of 2^i over
+ * the marks i that are on, 0 to 2^m - 1. It stands in the class, out of it, or either: no can could have it, so that lines may contain it or not, and
+ * it holds nothing. A line is a box: each mark has a digit, 0 off, 1 on, 2 free, and the line's number is the sum of digit * 3^i, 0 to 3^m - 1; it
+ * contains every combination that agrees with its digits 0 and 1. The list of a class is the shortest list of lines that together contain every
+ * combination in the class and none that is out, no combination twice, be it in the class or either; in rising order of each line's lowest combination
+ * in the class, and the first such list by line numbers.
  *
  * A program keeps a sheet in its stored form: bytes, to be written to a file as they are, the same on every machine.
  *
  *     byte m
  *     count (2 bytes, low byte first), then the combinations in the class, one byte each, strictly rising
- *     count (2 bytes, low byte first), then the held combinations, strictly rising: one byte, and the seconds (1 or more) in 4 bytes, low first
+ *     count (2 bytes, low byte first), then the either combinations, one byte each, strictly rising; none of them is in the class
+ *     count (2 bytes, low byte first), then the held combinations, strictly rising: one byte, and the seconds (1 or more) in 4 bytes, low first;
+ *         none of them is either
+ *
+ * What stands in neither of the first two sections is out. Up to version 2 the form had no section of either combinations: vault_from_form1 reads such
+ * bytes, every other entry today's alone. Nothing guesses in which of the two forms bytes are, and nothing could, since some are both (see there).
  *
  * An entry that changes a sheet takes the old stored form in one area and writes the new one to another, which the program takes for the
  * sheet from then on: never in place. Nothing else is kept: no memory is allocated, there is no state between calls, and nothing is locked, so
@@ -20,21 +26,22 @@
  * Areas. A pointer and a length lend that many bytes for the time of the call. Any length is taken. A null pointer with length 0 is an empty
  * area; with another length it must not be null. An area that is written to may not overlap any other; two that are only read may. A byte
  * behind what was written stays as it was. An area that always suffices has VAULT_FORM_SIZE bytes for a stored form, VAULT_LIST_SIZE bytes for
- * a list, and VAULT_PLA_SIZE bytes for a PLA text that is written.
+ * a list, and VAULT_PLA_SIZE bytes for a PLA text that is written; an old form that is read has at most VAULT_FORM1_SIZE.
  *
  * Replies. Every entry but two returns a struct vault_reply: an answer, a place and a value. vault_read_time returns a struct vault_time, which has
  * these three in front, under the same rules, and a form behind them; vault_check_list a struct vault_verdict, which has the answer and the place in
  * front, and behind them a fault and where that is. The place is 0 for every answer but VAULT_UNREADABLE; the value is 0 for every answer but
  * VAULT_DONE, and so are the form, the fault and where it is. Every answer but VAULT_DONE is a refusal, and leaves every byte of every area as it was.
  * If there are several reasons to refuse, the first in this order is answered: what reading the sheet answers, then what the call answers, in the
- * order in which the entry below names them, then VAULT_ROOM. (vault_open reads no sheet, and vault_read_pla reads a text in its place.)
+ * order in which the entry below names them, then VAULT_ROOM. (vault_open reads no sheet; vault_read_pla reads a text in its place, and
+ * vault_from_form1 a form without either combinations.)
  *
  * Reading a sheet answers, before anything else,
  *     VAULT_UNREADABLE  with place 0, if there is no byte
  *     VAULT_MARKS       if its first byte is not 1 to 5
- *     VAULT_UNREADABLE  with the offset of the first faulty field: a count above 2^m, a combination not below 2^m or not above the one before,
- *                       seconds of 0, or seconds that bring the sum above VAULT_MOST_HELD; or with the length, if the bytes end early; or with
- *                       the offset of the first byte left over.
+ *     VAULT_UNREADABLE  with the offset of the first faulty field: a count above 2^m, a combination not below 2^m or not above the one before in its
+ *                       section, an either combination that is in the class, a held one that is either, seconds of 0, or seconds that bring the
+ *                       sum above VAULT_MOST_HELD; or with the length, if the bytes end early; or with the offset of the first byte left over.
  * Fields are judged in order, each once all its bytes are there. So a faulty field that is complete comes before bytes that end early, and one
  * that is cut short is not judged: the bytes 1, 3, 0 have place 1, a count above 2, and the bytes 1, 3 have place 2, where they end. The seconds
  * of a held combination are a field of their own, with their own offset, one above that of the combination.
@@ -50,8 +57,8 @@ extern "C" {
 #endif
 
 /* The version, as three numbers and as text with dots between. The three lines are its one source: Makefile and vault.pc take it from here. */
-#define VAULT_VERSION_MAJOR 2
-#define VAULT_VERSION_MINOR 1
+#define VAULT_VERSION_MAJOR 3
+#define VAULT_VERSION_MINOR 0
 #define VAULT_VERSION_PATCH 0
 #define VAULT_DOTTED(a, b, c) #a "." #b "." #c
 #define VAULT_DOTTED_VALUES(a, b, c) VAULT_DOTTED(a, b, c)
@@ -69,7 +76,8 @@ enum vault_answer {
     VAULT_SPOILED = 7,     /* the sheet is spoiled: never met here, since a sheet that can be read is sound */
     VAULT_ABOVE = 8,       /* a receipt would take the seconds of a line above 4,000,000,000 */
     VAULT_BELOW = 9,       /* a withdrawal would take the seconds of a line below 0 */
-    VAULT_UNREADABLE = 10  /* text or stored bytes not readable; the place goes with it */
+    VAULT_UNREADABLE = 10, /* text or stored bytes not readable; the place goes with it */
+    VAULT_EITHER = 12      /* a receipt to an either combination, or making one either that holds seconds */
 };
 
 /* The forms of a running time. */
@@ -84,7 +92,7 @@ enum vault_fault {
     VAULT_FITS = 0,     /* none; or the check was refused */
     VAULT_NO_BOX = 1,   /* a number that is no line: not below 3^m */
     VAULT_OVERLAP = 2,  /* a line that contains a combination of an earlier one */
-    VAULT_LEAVES = 3,   /* a line that contains a combination outside the class */
+    VAULT_LEAVES = 3,   /* a line that contains a combination that is out */
     VAULT_UNCOVERED = 4 /* a combination in the class that no line contains */
 };
 
@@ -95,10 +103,14 @@ enum vault_fault {
 #define VAULT_MOST_AMOUNT 35999      /* seconds of one receipt or withdrawal: 599:59, or 9:59:59, the most of either form */
 #define VAULT_MOST_HELD 4000000000u  /* seconds of a sheet */
 
-/* Room that always suffices: for a stored form, 5 + 6 * 32 bytes, for a list, and for a PLA text that is written, of 16 cubes of five marks. */
-#define VAULT_FORM_SIZE 197
+/*
+ * Room that always suffices: for a stored form, 7 + 6 * 32 bytes, for a list, and for a PLA text that is written, of 16 cubes of five marks. A form of
+ * version 2 or before, which vault_from_form1 reads, has no more than 5 + 6 * 32 bytes.
+ */
+#define VAULT_FORM_SIZE 199
 #define VAULT_LIST_SIZE 32
 #define VAULT_PLA_SIZE 147
+#define VAULT_FORM1_SIZE 197
 
 /* The combinations, 2^m, and the lines, 3^m, of a sheet of m marks, m from 1 to 5: 2, 4, 8, 16, 32 and 3, 9, 27, 81, 243. */
 #define VAULT_COMBINATIONS(m) (1u << (m))
@@ -127,36 +139,44 @@ struct vault_verdict {
 };
 
 /*
- * Opens a sheet of some marks, with every combination outside the class and nothing held. Value: the bytes written (5).
- * Refused: VAULT_MARKS if marks is not 1 to 5; VAULT_ROOM if out has fewer than 5 bytes.
+ * Opens a sheet of some marks, with every combination out and nothing held. Value: the bytes written (7).
+ * Refused: VAULT_MARKS if marks is not 1 to 5; VAULT_ROOM if out has fewer than 7 bytes.
  */
 struct vault_reply vault_open(uint64_t marks, uint8_t *out, size_t out_size);
 
 /*
- * The four changes. Never in place: out may not overlap the sheet. The value is the size of the new form, which out holds only if the answer is
+ * The five changes. Never in place: out may not overlap the sheet. The value is the size of the new form, which out holds only if the answer is
  * VAULT_DONE; after a refusal the old form is still the sheet.
  */
 
 /*
- * Puts a combination into the class (enter), or takes it out (leave). Value: the bytes written.
- * Refused: reading's answer; VAULT_COMBINATION; VAULT_STANDING if it is in the class (outside it) already; VAULT_ROOM if out is too short for
- * the new form.
+ * Puts a combination into the class (enter), or takes it out (leave), however it stood, also if it was either. Value: the bytes written.
+ * Refused: reading's answer; VAULT_COMBINATION; VAULT_STANDING if it is in the class (out of it) already; VAULT_ROOM if out is too short for the
+ * new form.
  */
 struct vault_reply vault_enter(const uint8_t *sheet, size_t sheet_size, uint64_t combination, uint8_t *out, size_t out_size);
 struct vault_reply vault_leave(const uint8_t *sheet, size_t sheet_size, uint64_t combination, uint8_t *out, size_t out_size);
 
 /*
- * Adds seconds to what a combination holds. Value: the bytes written. The combination may be in the class or outside it.
- * Refused: reading's answer; VAULT_COMBINATION; VAULT_AMOUNT if seconds is not 1 to VAULT_MOST_AMOUNT; VAULT_ABOVE if the sheet would hold more
- * than VAULT_MOST_HELD; VAULT_ROOM if out is too short for the new form.
+ * Makes a combination either, that was in the class or out of it: no can could have it, and lines may contain it or not, whichever gives the better
+ * list. Value: the bytes written.
+ * Refused: reading's answer; VAULT_COMBINATION; VAULT_STANDING if it is either already; VAULT_EITHER if it holds seconds; VAULT_ROOM if out is too
+ * short for the new form.
+ */
+struct vault_reply vault_make_either(const uint8_t *sheet, size_t sheet_size, uint64_t combination, uint8_t *out, size_t out_size);
+
+/*
+ * Adds seconds to what a combination holds. Value: the bytes written. The combination may be in the class or out of it.
+ * Refused: reading's answer; VAULT_COMBINATION; VAULT_AMOUNT if seconds is not 1 to VAULT_MOST_AMOUNT; VAULT_EITHER if the combination is either;
+ * VAULT_ABOVE if the sheet would hold more than VAULT_MOST_HELD; VAULT_ROOM if out is too short for the new form.
  */
 struct vault_reply vault_receive(const uint8_t *sheet, size_t sheet_size, uint64_t combination, uint64_t seconds, uint8_t *out,
                                  size_t out_size);
 
 /*
  * Takes seconds from what a combination holds. Value: the bytes written.
- * Refused: reading's answer; VAULT_COMBINATION; VAULT_AMOUNT as above; VAULT_BELOW if the combination holds less; VAULT_ROOM if out is too short
- * for the new form.
+ * Refused: reading's answer; VAULT_COMBINATION; VAULT_AMOUNT as above; VAULT_BELOW if the combination holds less, as every either one does;
+ * VAULT_ROOM if out is too short for the new form.
  */
 struct vault_reply vault_withdraw(const uint8_t *sheet, size_t sheet_size, uint64_t combination, uint64_t seconds, uint8_t *out,
                                   size_t out_size);
@@ -167,6 +187,15 @@ struct vault_reply vault_withdraw(const uint8_t *sheet, size_t sheet_size, uint6
  * Refused: reading's answer; VAULT_ROOM if out has fewer bytes than the form.
  */
 struct vault_reply vault_copy(const uint8_t *sheet, size_t sheet_size, uint8_t *out, size_t out_size);
+
+/*
+ * Reads a form of version 2 or before, which has no section of either combinations: byte m, the class section and the held section, as above. Writes
+ * the same sheet in today's form, without an either combination. Value: the bytes written, two more than were read.
+ * Refused: what reading a sheet answers, in this form; VAULT_ROOM if out is too short for the new one.
+ * A program knows by itself which of its files are old. The bytes do not tell: the twenty 3, 0 0, 3 0, 0 1 2 2 0, 3 1 0 0 0, 4 1 0 0 0 are an old form,
+ * with 131,585 seconds under 0, and one each under 3 and 4; and today's, with 0, 1 and 2 either, and one each under 3 and 4.
+ */
+struct vault_reply vault_from_form1(const uint8_t *old, size_t old_size, uint8_t *out, size_t out_size);
 
 /*
  * Writes the list of the class, one byte for each line's number. Value: the number of lines, 0 for an empty class.
@@ -181,11 +210,13 @@ struct vault_reply vault_class_size(const uint8_t *sheet, size_t sheet_size);
 struct vault_reply vault_total(const uint8_t *sheet, size_t sheet_size);
 
 /*
- * Value: how many combinations of the line are outside the class (outside), and the seconds that its combinations hold (held).
+ * Value: how many combinations of the line are out of the class (outside), how many are either (either), and the seconds that its combinations hold
+ * (held).
  * Refused: reading's answer.
- * Beware: a number not below 3^m, VAULT_LINES(m), is no line of the sheet, and is not refused: both entries answer VAULT_DONE with 0.
+ * Beware: a number not below 3^m, VAULT_LINES(m), is no line of the sheet, and is not refused: the three entries answer VAULT_DONE with 0.
  */
 struct vault_reply vault_outside(const uint8_t *sheet, size_t sheet_size, uint64_t line);
+struct vault_reply vault_either(const uint8_t *sheet, size_t sheet_size, uint64_t line);
 struct vault_reply vault_held(const uint8_t *sheet, size_t sheet_size, uint64_t line);
 
 /*
@@ -197,12 +228,13 @@ struct vault_reply vault_before(const uint8_t *first, size_t first_size, const u
 
 /*
  * Checks a list that someone else drew, one byte for each line's number, in any order and of any length. It fits the class if no combination is in
- * two of its lines, and they together contain the class and nothing else; it need not be the shortest. The empty list fits the empty class alone.
+ * two of its lines, either ones included, and they together contain every combination in the class and none that is out; it need not be the shortest,
+ * and a line of either combinations alone is no fault. The empty list fits the empty class alone.
  * Fault: VAULT_FITS, or the first of these that is found, each being sought through the whole list before the next:
  *
  *     VAULT_NO_BOX     a number not below 3^m. At: the first such index
  *     VAULT_OVERLAP    a line that shares a combination with an earlier one. At: the index of the later line, the first there is
- *     VAULT_LEAVES     a line that contains a combination outside the class. At: the first such index
+ *     VAULT_LEAVES     a line that contains a combination that is out. At: the first such index
  *     VAULT_UNCOVERED  a combination in the class that no line contains. At: the lowest such combination
  *
  * So the list 5, 5, 9 of two marks has VAULT_NO_BOX at 2, and not VAULT_OVERLAP at 1. A faulty list is no refusal: the answer is VAULT_DONE.
@@ -250,7 +282,7 @@ struct vault_time vault_read_time(const void *text, size_t text_size);
 
 /*
  * Reads a PLA text, and writes the stored form of the sheet that has the union of the cubes as its class, and holds nothing. The text is lent as
- * const void *, as above. Value: the bytes written, 5 and one for each combination in the class, so at most 37.
+ * const void *, as above. No combination of it is either. Value: the bytes written, 7 and one for each combination in the class, so at most 39.
  * Refused, the lines being judged in order: VAULT_UNREADABLE, with the offset of the first byte of the first unreadable line; VAULT_MARKS as soon
  * as a readable .i line comes whose inputs are not 1 to 5, whatever stands behind it. Then, at the text's end or at .e: VAULT_UNREADABLE, with the
  * length of the whole text, if .i or .o has not come; VAULT_UNREADABLE, with the offset of the .p line, if its number is not that of the cubes.
@@ -260,8 +292,8 @@ struct vault_reply vault_read_pla(const void *text, size_t text_size, uint8_t *o
 
 /*
  * Writes the list of the class as a PLA text, to an area that is lent as void *, so that a char * is passed as it is: .i, .o 1, .p, a cube for
- * each line of the list in its order, and .e, with single spaces, each line ended by a newline. No zero byte is put behind it. vault_read_pla reads
- * the class back. Value: the bytes of the text.
+ * each line of the list in its order, and .e, with single spaces, each line ended by a newline. No zero byte is put behind it. What vault_read_pla
+ * reads back has in its class the class and the either combinations of these lines, and the others out. Value: the bytes of the text.
  * Refused: reading's answer; VAULT_ROOM exactly if the text is longer than out.
  */
 struct vault_reply vault_write_pla(const uint8_t *sheet, size_t sheet_size, void *out, size_t out_size);

@@ -32,6 +32,7 @@ static inline const char *vault_answer_text(uint64_t answer)
     case VAULT_ABOVE: return "more than a sheet can hold";
     case VAULT_BELOW: return "less is held";
     case VAULT_UNREADABLE: return "not readable";
+    case VAULT_EITHER: return "an either combination holds nothing";
     default: return "no such answer";
     }
 }
@@ -103,8 +104,8 @@ static inline char *vault_time_text(uint64_t seconds, char *out)
 }
 
 /*
- * The line that contains one combination and no other, for vault_held and vault_outside. A combination that a sheet does not have gives a number
- * that is no line of it.
+ * The line that contains one combination and no other, for vault_held, vault_outside and vault_either. A combination that a sheet does not have gives
+ * a number that is no line of it.
  */
 static inline uint64_t vault_line_of(uint64_t combination)
 {
@@ -158,8 +159,9 @@ static inline struct vault_reply vault_sheet_swap(struct vault_sheet *s, struct 
 }
 
 /*
- * A sheet begins with one of these: vault_open, or vault_copy of a stored form, or vault_read_pla of a PLA text; form and text may not lie in s. What
- * s was before does not matter. A refusal leaves no sheet in s: every call on it then answers VAULT_UNREADABLE at place 0.
+ * A sheet begins with one of these: vault_open, or vault_copy of a stored form, or vault_from_form1 of an old one, or vault_read_pla of a PLA text; form
+ * and text may not lie in s. What s was before does not matter. A refusal leaves no sheet in s: every call on it then answers VAULT_UNREADABLE at
+ * place 0.
  */
 static inline struct vault_reply vault_sheet_open(struct vault_sheet *s, uint64_t marks)
 {
@@ -173,6 +175,13 @@ static inline struct vault_reply vault_sheet_read(struct vault_sheet *s, const u
     s->size = 0;
     s->now = 0;
     return vault_sheet_swap(s, vault_copy(bytes, size, vault_sheet_room(s), VAULT_FORM_SIZE));
+}
+
+static inline struct vault_reply vault_sheet_from_form1(struct vault_sheet *s, const uint8_t *old, size_t size)
+{
+    s->size = 0;
+    s->now = 0;
+    return vault_sheet_swap(s, vault_from_form1(old, size, vault_sheet_room(s), VAULT_FORM_SIZE));
 }
 
 static inline struct vault_reply vault_sheet_read_pla(struct vault_sheet *s, const void *text, size_t size)
@@ -191,6 +200,11 @@ static inline struct vault_reply vault_sheet_enter(struct vault_sheet *s, uint64
 static inline struct vault_reply vault_sheet_leave(struct vault_sheet *s, uint64_t combination)
 {
     return vault_sheet_swap(s, vault_leave(vault_sheet_bytes(s), s->size, combination, vault_sheet_room(s), VAULT_FORM_SIZE));
+}
+
+static inline struct vault_reply vault_sheet_make_either(struct vault_sheet *s, uint64_t combination)
+{
+    return vault_sheet_swap(s, vault_make_either(vault_sheet_bytes(s), s->size, combination, vault_sheet_room(s), VAULT_FORM_SIZE));
 }
 
 static inline struct vault_reply vault_sheet_receive(struct vault_sheet *s, uint64_t combination, uint64_t seconds)
@@ -235,6 +249,11 @@ static inline struct vault_reply vault_sheet_total(const struct vault_sheet *s)
 static inline struct vault_reply vault_sheet_outside(const struct vault_sheet *s, uint64_t line)
 {
     return vault_outside(vault_sheet_bytes(s), s->size, line);
+}
+
+static inline struct vault_reply vault_sheet_either(const struct vault_sheet *s, uint64_t line)
+{
+    return vault_either(vault_sheet_bytes(s), s->size, line);
 }
 
 static inline struct vault_reply vault_sheet_held(const struct vault_sheet *s, uint64_t line)

@@ -65,8 +65,9 @@ static size_t form_of(const struct class *c, uint8_t form[VAULT_FORM_SIZE])
             form[n++] = (uint8_t)k;
     form[0] = (uint8_t)c->marks;
     form[1] = (uint8_t)(n - 3);
-    form[2] = form[n] = form[n + 1] = 0;
-    return n + 2;
+    form[2] = 0;
+    memset(form + n, 0, 4); /* nothing either, nothing held */
+    return n + 4;
 }
 
 /* ---- files */

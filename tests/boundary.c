@@ -1,6 +1,7 @@
 /* Every entry at its limits, through vault.h: each answer that it can give, areas of every length around the one that is needed, empty areas with
-   a null pointer and without, numbers above 2^32, guard bytes around what is lent, the known sheets, lists with every fault at every place, every
-   beginning of a running time with every byte behind it, PLA texts line by line and byte by byte, and calls from threads with small stacks.
+   a null pointer and without, numbers above 2^32, guard bytes around what is lent, the known sheets, sheets with either combinations, old forms, lists
+   with every fault at every place, every beginning of a running time with every byte behind it, PLA texts line by line and byte by byte, and calls from
+   threads with small stacks.
    Prints the first that failed and the number of checks; the exit status is 0 only if none failed. */
 #define _DEFAULT_SOURCE
 #include "vault.h"
@@ -62,9 +63,9 @@ static int holds(struct area *a, const uint8_t *want, size_t n)
 
 /* ---- the calls that write, as one */
 
-enum entry { OPEN, ENTER, LEAVE, RECEIVE, WITHDRAW, COPY, LIST, WRITE_PLA, READ_PLA };
-static const char *const names[] = {"vault_open", "vault_enter", "vault_leave",     "vault_receive", "vault_withdraw",
-                                    "vault_copy", "vault_list",  "vault_write_pla", "vault_read_pla"};
+enum entry { OPEN, ENTER, LEAVE, MAKE_EITHER, RECEIVE, WITHDRAW, COPY, LIST, WRITE_PLA, READ_PLA, FROM_FORM1 };
+static const char *const names[] = {"vault_open", "vault_enter", "vault_leave",     "vault_make_either", "vault_receive",   "vault_withdraw",
+                                    "vault_copy", "vault_list",  "vault_write_pla", "vault_read_pla",    "vault_from_form1"};
 
 struct call {
     enum entry entry;
@@ -79,12 +80,14 @@ static struct vault_reply made(const struct call *c, uint8_t *out, size_t n)
     case OPEN: return vault_open(c->x, out, n);
     case ENTER: return vault_enter(c->sheet, c->size, c->x, out, n);
     case LEAVE: return vault_leave(c->sheet, c->size, c->x, out, n);
+    case MAKE_EITHER: return vault_make_either(c->sheet, c->size, c->x, out, n);
     case RECEIVE: return vault_receive(c->sheet, c->size, c->x, c->y, out, n);
     case WITHDRAW: return vault_withdraw(c->sheet, c->size, c->x, c->y, out, n);
     case COPY: return vault_copy(c->sheet, c->size, out, n);
     case LIST: return vault_list(c->sheet, c->size, out, n);
     case WRITE_PLA: return vault_write_pla(c->sheet, c->size, out, n);
-    default: return vault_read_pla(c->sheet, c->size, out, n);
+    case READ_PLA: return vault_read_pla(c->sheet, c->size, out, n);
+    default: return vault_from_form1(c->sheet, c->size, out, n);
     }
 }
 
@@ -121,31 +124,51 @@ static int has(uint64_t marks, uint64_t b, uint64_t c)
     return in;
 }
 
-/* The form of a sheet that holds nothing. */
-static size_t drawn(uint8_t form[VAULT_FORM_SIZE], uint64_t marks, uint32_t class)
+/* A section of combinations, its count in front, and where the next one begins. */
+static size_t section(uint8_t *form, size_t n, uint32_t set)
 {
-    size_t n = 3;
+    size_t from = n;
+    n += 2;
     for (int c = 0; c < 32; c++)
-        if (class >> c & 1)
+        if (set >> c & 1)
             form[n++] = (uint8_t)c;
-    form[0] = (uint8_t)marks;
-    form[1] = (uint8_t)(n - 3);
-    form[2] = form[n] = form[n + 1] = 0;
-    return n + 2;
+    form[from] = (uint8_t)(n - from - 2);
+    form[from + 1] = 0;
+    return n;
 }
 
-/* The sample sheet: class 1, 2, 3 of two marks; 240, 150 and 600 seconds under 0, 1 and 3. */
-static const uint8_t sample[] = {2, 3, 0, 1, 2, 3, 3, 0, 0, 0xf0, 0, 0, 0, 1, 0x96, 0, 0, 0, 3, 0x58, 2, 0, 0};
+/* The form of a sheet that holds nothing; and of one without either combinations. */
+static size_t drawn_with(uint8_t form[VAULT_FORM_SIZE], uint64_t marks, uint32_t class, uint32_t either)
+{
+    form[0] = (uint8_t)marks;
+    return section(form, section(form, section(form, 1, class), either), 0);
+}
 
-/* One mark, nothing in; 4,000,000,000 and 3,999,964,001 seconds under 1. */
-static const uint8_t full[] = {1, 0, 0, 1, 0, 1, 0x00, 0x28, 0x6b, 0xee};
-static const uint8_t nearly[] = {1, 0, 0, 1, 0, 1, 0x61, 0x9b, 0x6a, 0xee};
+static size_t drawn(uint8_t form[VAULT_FORM_SIZE], uint64_t marks, uint32_t class)
+{
+    return drawn_with(form, marks, class, 0);
+}
+
+/* The sample sheet: class 1, 2, 3 of two marks; 240, 150 and 600 seconds under 0, 1 and 3. And its old form, without a section of either combinations. */
+static const uint8_t sample[] = {2, 3, 0, 1, 2, 3, 0, 0, 3, 0, 0, 0xf0, 0, 0, 0, 1, 0x96, 0, 0, 0, 3, 0x58, 2, 0, 0};
+static const uint8_t sample1[] = {2, 3, 0, 1, 2, 3, 3, 0, 0, 0xf0, 0, 0, 0, 1, 0x96, 0, 0, 0, 3, 0x58, 2, 0, 0};
+
+/* Every standing, of two marks: 1 is in, 3 either, 0 and 2 out; 240 and 150 seconds under 0 and 1. */
+static const uint8_t mixed[] = {2, 1, 0, 1, 1, 0, 3, 2, 0, 0, 0xf0, 0, 0, 0, 1, 0x96, 0, 0, 0};
+
+/* One mark, nothing in; 4,000,000,000 and 3,999,964,001 seconds under 1; and the first with 0 either. */
+static const uint8_t full[] = {1, 0, 0, 0, 0, 1, 0, 1, 0x00, 0x28, 0x6b, 0xee};
+static const uint8_t nearly[] = {1, 0, 0, 0, 0, 1, 0, 1, 0x61, 0x9b, 0x6a, 0xee};
+static const uint8_t full_either[] = {1, 0, 0, 1, 0, 0, 1, 0, 1, 0x00, 0x28, 0x6b, 0xee};
+
+/* Combinations that no sheet of two marks has. */
+static const uint64_t above[] = {4, 5, 255, 256, UINT64_C(0x100000000), UINT64_C(0x100000002), UINT64_MAX};
 
 static void opening(void)
 {
     for (uint64_t m = 1; m <= 5; m++) {
-        uint8_t want[5] = {(uint8_t)m, 0, 0, 0, 0};
-        writes((struct call){OPEN, NULL, 0, m, 0}, want, 5, 5);
+        uint8_t want[7] = {(uint8_t)m, 0, 0, 0, 0, 0, 0};
+        writes((struct call){OPEN, NULL, 0, m, 0}, want, 7, 7);
     }
     static const uint64_t wrong[] = {0, 6, 255, 256 + 1, UINT64_C(0x100000001), UINT64_C(0x8000000000000001), UINT64_MAX};
     for (size_t i = 0; i < sizeof wrong / sizeof *wrong; i++)
@@ -154,9 +177,8 @@ static void opening(void)
 
 static void class_changes(void)
 {
-    static const uint8_t in0[] = {2, 4, 0, 0, 1, 2, 3, 3, 0, 0, 0xf0, 0, 0, 0, 1, 0x96, 0, 0, 0, 3, 0x58, 2, 0, 0};
-    static const uint8_t out2[] = {2, 2, 0, 1, 3, 3, 0, 0, 0xf0, 0, 0, 0, 1, 0x96, 0, 0, 0, 3, 0x58, 2, 0, 0};
-    static const uint64_t above[] = {4, 5, 255, 256, UINT64_C(0x100000000), UINT64_C(0x100000002), UINT64_MAX};
+    static const uint8_t in0[] = {2, 4, 0, 0, 1, 2, 3, 0, 0, 3, 0, 0, 0xf0, 0, 0, 0, 1, 0x96, 0, 0, 0, 3, 0x58, 2, 0, 0};
+    static const uint8_t out2[] = {2, 2, 0, 1, 3, 0, 0, 3, 0, 0, 0xf0, 0, 0, 0, 1, 0x96, 0, 0, 0, 3, 0x58, 2, 0, 0};
     writes((struct call){ENTER, sample, sizeof sample, 0, 0}, in0, sizeof in0, sizeof in0);
     writes((struct call){LEAVE, sample, sizeof sample, 2, 0}, out2, sizeof out2, sizeof out2);
     for (uint64_t c = 1; c <= 3; c++)
@@ -168,12 +190,62 @@ static void class_changes(void)
     }
 }
 
+/* From each standing to the two others, and no further. */
+static void either_changes(void)
+{
+    static const uint8_t in_to_either[] = {2, 2, 0, 1, 3, 1, 0, 2, 3, 0, 0, 0xf0, 0, 0, 0, 1, 0x96, 0, 0, 0, 3, 0x58, 2, 0, 0};
+    static const uint8_t out_to_either[] = {2, 1, 0, 1, 2, 0, 2, 3, 2, 0, 0, 0xf0, 0, 0, 0, 1, 0x96, 0, 0, 0};
+    static const uint8_t either_to_in[] = {2, 2, 0, 1, 3, 0, 0, 2, 0, 0, 0xf0, 0, 0, 0, 1, 0x96, 0, 0, 0};
+    static const uint8_t either_to_out[] = {2, 1, 0, 1, 0, 0, 2, 0, 0, 0xf0, 0, 0, 0, 1, 0x96, 0, 0, 0};
+    static const uint8_t both[] = {1, 0, 0, 2, 0, 0, 1, 0, 0}, one[] = {1, 0, 0, 1, 0, 1, 0, 0}, in_one[] = {1, 1, 0, 0, 1, 0, 1, 0, 0};
+    writes((struct call){MAKE_EITHER, sample, sizeof sample, 2, 0}, in_to_either, sizeof in_to_either, sizeof in_to_either);
+    writes((struct call){MAKE_EITHER, mixed, sizeof mixed, 2, 0}, out_to_either, sizeof out_to_either, sizeof out_to_either);
+    writes((struct call){ENTER, mixed, sizeof mixed, 3, 0}, either_to_in, sizeof either_to_in, sizeof either_to_in);
+    writes((struct call){LEAVE, mixed, sizeof mixed, 3, 0}, either_to_out, sizeof either_to_out, sizeof either_to_out);
+    writes((struct call){ENTER, in_to_either, sizeof in_to_either, 2, 0}, sample, sizeof sample, sizeof sample);
+    writes((struct call){LEAVE, out_to_either, sizeof out_to_either, 2, 0}, mixed, sizeof mixed, sizeof mixed);
+    writes((struct call){MAKE_EITHER, one, sizeof one, 0, 0}, both, sizeof both, sizeof both);
+    writes((struct call){LEAVE, both, sizeof both, 0, 0}, one, sizeof one, sizeof one);
+    writes((struct call){ENTER, both, sizeof both, 0, 0}, in_one, sizeof in_one, sizeof in_one);
+    /* the standing already had; what holds seconds, be it in the class or out; no combination */
+    refuses((struct call){MAKE_EITHER, mixed, sizeof mixed, 3, 0}, VAULT_STANDING, 0);
+    refuses((struct call){MAKE_EITHER, both, sizeof both, 1, 0}, VAULT_STANDING, 0);
+    refuses((struct call){ENTER, mixed, sizeof mixed, 1, 0}, VAULT_STANDING, 0);
+    refuses((struct call){LEAVE, mixed, sizeof mixed, 2, 0}, VAULT_STANDING, 0);
+    refuses((struct call){MAKE_EITHER, mixed, sizeof mixed, 0, 0}, VAULT_EITHER, 0);
+    refuses((struct call){MAKE_EITHER, mixed, sizeof mixed, 1, 0}, VAULT_EITHER, 0);
+    refuses((struct call){MAKE_EITHER, sample, sizeof sample, 3, 0}, VAULT_EITHER, 0);
+    refuses((struct call){MAKE_EITHER, full, sizeof full, 1, 0}, VAULT_EITHER, 0);
+    for (size_t i = 0; i < sizeof above / sizeof *above; i++)
+        refuses((struct call){MAKE_EITHER, mixed, sizeof mixed, above[i], 0}, VAULT_COMBINATION, 0);
+    check(VAULT_EITHER == 12, "the number of an either combination", VAULT_EITHER);
+}
+
+/* No time comes to an either combination: after 2 and 4, before 8. */
+static void either_movements(void)
+{
+    static const uint64_t wrong[] = {0, 36000, UINT64_C(0x100000001), UINT64_MAX};
+    for (size_t i = 0; i < sizeof wrong / sizeof *wrong; i++) {
+        refuses((struct call){RECEIVE, mixed, sizeof mixed, 3, wrong[i]}, VAULT_AMOUNT, 0);
+        refuses((struct call){WITHDRAW, mixed, sizeof mixed, 3, wrong[i]}, VAULT_AMOUNT, 0);
+        refuses((struct call){RECEIVE, full_either, sizeof full_either, 0, wrong[i]}, VAULT_AMOUNT, 0);
+    }
+    refuses((struct call){RECEIVE, mixed, sizeof mixed, 3, 1}, VAULT_EITHER, 0);
+    refuses((struct call){RECEIVE, mixed, sizeof mixed, 3, 35999}, VAULT_EITHER, 0);
+    refuses((struct call){RECEIVE, mixed, sizeof mixed, 7, 1}, VAULT_COMBINATION, 0);
+    refuses((struct call){RECEIVE, full_either, sizeof full_either, 0, 1}, VAULT_EITHER, 0);
+    refuses((struct call){RECEIVE, full_either, sizeof full_either, 1, 1}, VAULT_ABOVE, 0);
+    refuses((struct call){RECEIVE, full_either, sizeof full_either, 2, 1}, VAULT_COMBINATION, 0);
+    refuses((struct call){WITHDRAW, mixed, sizeof mixed, 3, 1}, VAULT_BELOW, 0);
+    refuses((struct call){WITHDRAW, mixed, sizeof mixed, 3, 35999}, VAULT_BELOW, 0);
+}
+
 static void movements(void)
 {
-    static const uint8_t more[] = {2, 3, 0, 1, 2, 3, 3, 0, 0, 0xf0, 0, 0, 0, 1, 0x96, 0, 0, 0, 3, 0x59, 2, 0, 0};
-    static const uint8_t most[] = {2, 3, 0, 1, 2, 3, 4, 0, 0, 0xf0, 0, 0, 0, 1, 0x96, 0, 0, 0, 2, 0x9f, 0x8c, 0, 0, 3, 0x58, 2, 0, 0};
-    static const uint8_t less[] = {2, 3, 0, 1, 2, 3, 3, 0, 0, 0xef, 0, 0, 0, 1, 0x96, 0, 0, 0, 3, 0x58, 2, 0, 0};
-    static const uint8_t none[] = {2, 3, 0, 1, 2, 3, 2, 0, 0, 0xf0, 0, 0, 0, 3, 0x58, 2, 0, 0};
+    static const uint8_t more[] = {2, 3, 0, 1, 2, 3, 0, 0, 3, 0, 0, 0xf0, 0, 0, 0, 1, 0x96, 0, 0, 0, 3, 0x59, 2, 0, 0};
+    static const uint8_t most[] = {2, 3, 0, 1, 2, 3, 0, 0, 4, 0, 0, 0xf0, 0, 0, 0, 1, 0x96, 0, 0, 0, 2, 0x9f, 0x8c, 0, 0, 3, 0x58, 2, 0, 0};
+    static const uint8_t less[] = {2, 3, 0, 1, 2, 3, 0, 0, 3, 0, 0, 0xef, 0, 0, 0, 1, 0x96, 0, 0, 0, 3, 0x58, 2, 0, 0};
+    static const uint8_t none[] = {2, 3, 0, 1, 2, 3, 0, 0, 2, 0, 0, 0xf0, 0, 0, 0, 3, 0x58, 2, 0, 0};
     static const uint64_t wrong[] = {0, 36000, 65536 + 1, UINT64_C(0x100000001), UINT64_C(0x8000000000000001), UINT64_MAX};
     writes((struct call){RECEIVE, sample, sizeof sample, 3, 1}, more, sizeof more, sizeof more);
     writes((struct call){RECEIVE, sample, sizeof sample, 2, 35999}, most, sizeof most, sizeof most);
@@ -193,16 +265,175 @@ static void movements(void)
     refuses((struct call){RECEIVE, full, sizeof full, 0, 35999}, VAULT_ABOVE, 0);
 }
 
+/* Bytes that are no sheet, and what reading them answers. */
+struct bad {
+    uint8_t bytes[20];
+    size_t n;
+    uint64_t answer, place;
+};
+
 static void reading(void)
 {
-    static const struct {
-        uint8_t bytes[16];
-        size_t n;
-        uint64_t answer, place;
-    } bad[] = {
+    static const struct bad bad[] = {
+        {{0}, 0, 10, 0},
+        {{0}, 1, 1, 0},
+        {{6, 0, 0, 0, 0, 0, 0}, 7, 1, 0},
+        {{1}, 1, 10, 1},
+        /* the class */
+        {{1, 0}, 2, 10, 2},
+        {{1, 3, 0}, 3, 10, 1},
+        {{1, 3}, 2, 10, 2},
+        {{1, 0, 1}, 3, 10, 1},
+        {{1, 1, 0}, 3, 10, 3},
+        {{1, 1, 0, 2}, 4, 10, 3},
+        {{1, 2, 0, 1, 1}, 5, 10, 4},
+        {{1, 2, 0, 1, 0, 0, 0, 0, 0}, 9, 10, 4},
+        /* the either combinations */
+        {{1, 0, 0}, 3, 10, 3},
+        {{1, 0, 0, 1}, 4, 10, 4},
+        {{1, 0, 0, 3}, 4, 10, 4},
+        {{1, 0, 0, 3, 0}, 5, 10, 3},
+        {{1, 0, 0, 0, 1}, 5, 10, 3},
+        {{1, 0, 0, 1, 0}, 5, 10, 5},
+        {{1, 0, 0, 1, 0, 2}, 6, 10, 5},
+        {{1, 0, 0, 2, 0, 1, 1}, 7, 10, 6},
+        {{1, 0, 0, 2, 0, 1, 0}, 7, 10, 6},
+        {{1, 0, 0, 2, 0, 0}, 6, 10, 6},
+        /* one that is in the class: the first, a later one; before what is missing behind it */
+        {{1, 1, 0, 0, 1, 0, 0}, 7, 10, 6},
+        {{1, 1, 0, 1, 1, 0, 1, 0, 0}, 9, 10, 6},
+        {{1, 1, 0, 1, 2, 0, 0, 1, 0, 0}, 10, 10, 7},
+        {{1, 1, 0, 0, 2, 0, 0}, 7, 10, 6},
+        {{1, 2, 0, 0, 1, 1, 0, 0}, 8, 10, 7},
+        {{2, 1, 0, 2, 2, 0, 1, 2}, 8, 10, 7},
+        {{2, 2, 0, 0, 3, 2, 0, 1, 3, 0, 0}, 11, 10, 8},
+        {{2, 1, 0, 2, 3, 0, 0, 1, 2, 0, 0}, 11, 10, 8},
+        /* what is held */
+        {{1, 0, 0, 0, 0}, 5, 10, 5},
+        {{1, 0, 0, 0, 0, 0}, 6, 10, 6},
+        {{1, 0, 0, 0, 0, 3, 0}, 7, 10, 5},
+        {{1, 0, 0, 0, 0, 0, 1}, 7, 10, 5},
+        {{1, 0, 0, 0, 0, 1, 0}, 7, 10, 7},
+        {{1, 0, 0, 0, 0, 1, 0, 2}, 8, 10, 7},
+        {{1, 0, 0, 0, 0, 1, 0, 1, 1, 0, 0}, 11, 10, 11},
+        {{1, 0, 0, 0, 0, 1, 0, 1, 0, 0, 0, 0}, 12, 10, 8},
+        {{1, 0, 0, 0, 0, 2, 0, 0, 0, 0, 0, 0}, 12, 10, 8},
+        {{1, 0, 0, 0, 0, 1, 0, 1, 1, 0x28, 0x6b, 0xee}, 12, 10, 8},
+        {{1, 0, 0, 0, 0, 2, 0, 0, 1, 0, 0, 0, 1, 0x00, 0x28, 0x6b, 0xee}, 17, 10, 13},
+        {{1, 0, 0, 0, 0, 2, 0, 1, 1, 0, 0, 0, 1, 1, 0, 0, 0}, 17, 10, 12},
+        {{1, 0, 0, 0, 0, 0, 0, 0}, 8, 10, 7},
+        /* one that is either: at the combination, whatever its seconds are, and before they are there */
+        {{1, 0, 0, 1, 0, 1, 1, 0, 1, 1, 0, 0, 0}, 13, 10, 8},
+        {{1, 0, 0, 1, 0, 1, 1, 0, 1, 0, 0, 0, 0}, 13, 10, 8},
+        {{1, 0, 0, 1, 0, 1, 1, 0, 1}, 9, 10, 8},
+        {{1, 0, 0, 1, 0, 1, 2, 0, 0, 5, 0, 0, 0, 1, 1, 0, 0, 0}, 18, 10, 13},
+        {{1, 0, 0, 2, 0, 0, 1, 1, 0, 0, 1, 0, 0, 0}, 14, 10, 9},
+        {{2, 1, 0, 2, 1, 0, 0, 1, 0, 0, 1, 0, 0, 0}, 14, 10, 9},
+    };
+    for (size_t i = 0; i < sizeof bad / sizeof *bad; i++) {
+        const uint8_t *t = bad[i].bytes;
+        size_t n = bad[i].n;
+        for (enum entry e = ENTER; e <= WRITE_PLA; e++)
+            refuses((struct call){e, t, n, 99, 0}, bad[i].answer, bad[i].place);
+        check(is(vault_class_size(t, n), bad[i].answer, bad[i].place, 0), "vault_class_size refuses", (long)i);
+        check(is(vault_total(t, n), bad[i].answer, bad[i].place, 0), "vault_total refuses", (long)i);
+        check(is(vault_outside(t, n, 0), bad[i].answer, bad[i].place, 0), "vault_outside refuses", (long)i);
+        check(is(vault_either(t, n, 0), bad[i].answer, bad[i].place, 0), "vault_either refuses", (long)i);
+        check(is(vault_held(t, n, 0), bad[i].answer, bad[i].place, 0), "vault_held refuses", (long)i);
+        struct vault_verdict v = vault_check_list(t, n, sample, sizeof sample);
+        check(v.answer == bad[i].answer && v.place == bad[i].place && v.fault == 0 && v.at == 0, "vault_check_list refuses", (long)i);
+    }
+    for (enum entry e = ENTER; e <= FROM_FORM1; e++)
+        refuses((struct call){e, NULL, 0, 0, 1}, VAULT_UNREADABLE, 0);
+    for (size_t n = 0; n < sizeof sample; n++)
+        check(is(vault_total(sample, n), VAULT_UNREADABLE, n, 0), "a sheet that ends early", (long)n);
+    for (size_t n = 0; n < sizeof mixed; n++)
+        check(is(vault_either(mixed, n, 0), VAULT_UNREADABLE, n, 0), "a sheet with either combinations that ends early", (long)n);
+    check(is(vault_total(NULL, 0), VAULT_UNREADABLE, 0, 0) && is(vault_class_size(NULL, 0), VAULT_UNREADABLE, 0, 0) &&
+              is(vault_outside(NULL, 0, 0), VAULT_UNREADABLE, 0, 0) && is(vault_either(NULL, 0, 0), VAULT_UNREADABLE, 0, 0) &&
+              is(vault_held(NULL, 0, 0), VAULT_UNREADABLE, 0, 0),
+          "no sheet", 0);
+}
+
+/* The section of what is held: a second more than its number under each combination of a set. */
+static size_t held_section(uint8_t *form, size_t n, uint32_t set)
+{
+    size_t from = n;
+    n += 2;
+    for (int c = 0; c < 32; c++)
+        if (set >> c & 1) {
+            form[n++] = (uint8_t)c;
+            form[n++] = (uint8_t)(c + 1);
+            form[n++] = 0;
+            form[n++] = 0;
+            form[n++] = 0;
+        }
+    form[from] = (uint8_t)((n - from - 2) / 5);
+    form[from + 1] = 0;
+    return n;
+}
+
+/* The longest form: all in the class, all held; and the longest old one, which is the same sheet. */
+static size_t longest(uint8_t form[VAULT_FORM_SIZE])
+{
+    form[0] = 5;
+    return held_section(form, section(form, section(form, 1, 0xffffffff), 0), 0xffffffff);
+}
+
+static size_t longest1(uint8_t form[VAULT_FORM1_SIZE])
+{
+    form[0] = 5;
+    return held_section(form, section(form, 1, 0xffffffff), 0xffffffff);
+}
+
+/* Three standings by turns, five marks: 0, 3, .. are in, 1, 4, .. either, 2, 5, .. out; and something held under each that is not either. */
+enum { THIRD = 0x49249249 };
+
+static size_t thirds(uint8_t form[VAULT_FORM_SIZE])
+{
+    form[0] = 5;
+    uint32_t either = (uint32_t)THIRD << 1;
+    return held_section(form, section(form, section(form, 1, THIRD), either), ~either);
+}
+
+static void copying(void)
+{
+    uint8_t form[VAULT_FORM_SIZE];
+    size_t n = longest(form);
+    check(n == VAULT_FORM_SIZE, "the longest form", (long)n);
+    writes((struct call){COPY, form, n, 0, 0}, form, n, n);
+    writes((struct call){COPY, sample, sizeof sample, 0, 0}, sample, sizeof sample, sizeof sample);
+    writes((struct call){COPY, mixed, sizeof mixed, 0, 0}, mixed, sizeof mixed, sizeof mixed);
+    writes((struct call){COPY, full, sizeof full, 0, 0}, full, sizeof full, sizeof full);
+    writes((struct call){COPY, full_either, sizeof full_either, 0, 0}, full_either, sizeof full_either, sizeof full_either);
+    check(is(vault_class_size(form, n), VAULT_DONE, 0, 32), "its class", 0);
+    check(is(vault_total(form, n), VAULT_DONE, 0, 528), "its total", 0);
+    n = drawn_with(form, 5, 0, 0xffffffff);
+    writes((struct call){COPY, form, n, 0, 0}, form, n, n);
+    check(is(vault_class_size(form, n), VAULT_DONE, 0, 0) && is(vault_total(form, n), VAULT_DONE, 0, 0), "all either: nothing in the class", 0);
+    n = thirds(form);
+    writes((struct call){COPY, form, n, 0, 0}, form, n, n);
+    /* 0, 3, .., 30: eleven of them, which hold 1 + 4 + .. + 31 seconds */
+    check(is(vault_class_size(form, n), VAULT_DONE, 0, 11) && is(vault_total(form, n), VAULT_DONE, 0, 176), "every standing by turns", 0);
+}
+
+/* ---- old forms */
+
+/* The bytes of an old form, to today's form, which these are. */
+static void converts(const uint8_t *old, size_t size, const uint8_t *want, size_t n)
+{
+    writes((struct call){FROM_FORM1, old, size, 0, 0}, want, n, n);
+    check(n == size + 2, "today's form has two bytes more", (long)size);
+}
+
+/* All that may be wrong with an old form, at its offset there. */
+static void faulty_old_forms(void)
+{
+    static const struct bad bad[] = {
         {{0}, 0, 10, 0},
         {{0}, 1, 1, 0},
         {{6, 0, 0, 0, 0}, 5, 1, 0},
+        {{255, 0, 0, 0, 0}, 5, 1, 0},
         {{1}, 1, 10, 1},
         {{1, 0}, 2, 10, 2},
         {{1, 3, 0}, 3, 10, 1},
@@ -215,6 +446,8 @@ static void reading(void)
         {{1, 0, 0}, 3, 10, 3},
         {{1, 0, 0, 1}, 4, 10, 4},
         {{1, 0, 0, 3, 0}, 5, 10, 3},
+        {{1, 0, 0, 0, 1}, 5, 10, 3},
+        {{1, 0, 0, 1, 0}, 5, 10, 5},
         {{1, 0, 0, 1, 0, 2}, 6, 10, 5},
         {{1, 0, 0, 1, 0, 1, 1, 0, 0}, 9, 10, 9},
         {{1, 0, 0, 1, 0, 1, 0, 0, 0, 0}, 10, 10, 6},
@@ -223,59 +456,41 @@ static void reading(void)
         {{1, 0, 0, 2, 0, 0, 1, 0, 0, 0, 1, 0x00, 0x28, 0x6b, 0xee}, 15, 10, 11},
         {{1, 0, 0, 2, 0, 1, 1, 0, 0, 0, 1, 1, 0, 0, 0}, 15, 10, 10},
         {{1, 0, 0, 0, 0, 0}, 6, 10, 5},
+        /* an opened sheet in today's form has two bytes left over; one with 0 either has a held combination whose seconds end early */
+        {{1, 0, 0, 0, 0, 0, 0}, 7, 10, 5},
+        {{1, 0, 0, 1, 0, 0, 0, 0}, 8, 10, 8},
     };
-    for (size_t i = 0; i < sizeof bad / sizeof *bad; i++) {
-        const uint8_t *t = bad[i].bytes;
-        size_t n = bad[i].n;
-        for (enum entry e = ENTER; e <= WRITE_PLA; e++)
-            refuses((struct call){e, t, n, 99, 0}, bad[i].answer, bad[i].place);
-        check(is(vault_class_size(t, n), bad[i].answer, bad[i].place, 0), "vault_class_size refuses", (long)i);
-        check(is(vault_total(t, n), bad[i].answer, bad[i].place, 0), "vault_total refuses", (long)i);
-        check(is(vault_outside(t, n, 0), bad[i].answer, bad[i].place, 0), "vault_outside refuses", (long)i);
-        check(is(vault_held(t, n, 0), bad[i].answer, bad[i].place, 0), "vault_held refuses", (long)i);
-        struct vault_verdict v = vault_check_list(t, n, sample, sizeof sample);
-        check(v.answer == bad[i].answer && v.place == bad[i].place && v.fault == 0 && v.at == 0, "vault_check_list refuses", (long)i);
-    }
-    for (enum entry e = ENTER; e <= READ_PLA; e++)
-        refuses((struct call){e, NULL, 0, 0, 1}, VAULT_UNREADABLE, 0);
-    for (size_t n = 0; n < sizeof sample; n++)
-        check(is(vault_total(sample, n), VAULT_UNREADABLE, n, 0), "a sheet that ends early", (long)n);
-    check(is(vault_total(NULL, 0), VAULT_UNREADABLE, 0, 0) && is(vault_class_size(NULL, 0), VAULT_UNREADABLE, 0, 0) &&
-              is(vault_outside(NULL, 0, 0), VAULT_UNREADABLE, 0, 0) && is(vault_held(NULL, 0, 0), VAULT_UNREADABLE, 0, 0),
-          "no sheet", 0);
+    for (size_t i = 0; i < sizeof bad / sizeof *bad; i++)
+        refuses((struct call){FROM_FORM1, bad[i].bytes, bad[i].n, 0, 0}, bad[i].answer, bad[i].place);
+    for (size_t n = 0; n < sizeof sample1; n++)
+        refuses((struct call){FROM_FORM1, sample1, n, 0, 0}, VAULT_UNREADABLE, n);
 }
 
-/* The longest form: all in the class, all held. */
-static size_t longest(uint8_t form[VAULT_FORM_SIZE])
+static void old_forms(void)
 {
-    size_t n = 0;
-    form[n++] = 5;
-    form[n++] = 32;
-    form[n++] = 0;
-    for (int c = 0; c < 32; c++)
-        form[n++] = (uint8_t)c;
-    form[n++] = 32;
-    form[n++] = 0;
-    for (int c = 0; c < 32; c++) {
-        form[n++] = (uint8_t)c;
-        form[n++] = (uint8_t)(c + 1);
-        form[n++] = 0;
-        form[n++] = 0;
-        form[n++] = 0;
-    }
-    return n;
-}
-
-static void copying(void)
-{
-    uint8_t form[VAULT_FORM_SIZE];
-    size_t n = longest(form);
-    check(n == VAULT_FORM_SIZE, "the longest form", (long)n);
-    writes((struct call){COPY, form, n, 0, 0}, form, n, n);
-    writes((struct call){COPY, sample, sizeof sample, 0, 0}, sample, sizeof sample, sizeof sample);
-    writes((struct call){COPY, full, sizeof full, 0, 0}, full, sizeof full, sizeof full);
-    check(is(vault_class_size(form, n), VAULT_DONE, 0, 32), "its class", 0);
-    check(is(vault_total(form, n), VAULT_DONE, 0, 528), "its total", 0);
+    static const uint8_t full1[] = {1, 0, 0, 1, 0, 1, 0x00, 0x28, 0x6b, 0xee};
+    /* both an old form and today's: 131,585 seconds under 0, or 0, 1 and 2 either; and in each a second under 3 and one under 4 */
+    static const uint8_t both[] = {3, 0, 0, 3, 0, 0, 1, 2, 2, 0, 3, 1, 0, 0, 0, 4, 1, 0, 0, 0};
+    static const uint8_t both_now[] = {3, 0, 0, 0, 0, 3, 0, 0, 1, 2, 2, 0, 3, 1, 0, 0, 0, 4, 1, 0, 0, 0};
+    uint8_t old[VAULT_FORM1_SIZE + 1], form[VAULT_FORM_SIZE];
+    for (uint8_t m = 1; m <= 5; m++)
+        converts((const uint8_t[]){m, 0, 0, 0, 0}, 5, (const uint8_t[]){m, 0, 0, 0, 0, 0, 0}, 7);
+    converts(sample1, sizeof sample1, sample, sizeof sample);
+    converts(full1, sizeof full1, full, sizeof full);
+    size_t n = longest1(old);
+    check(n == VAULT_FORM1_SIZE, "the longest old form", (long)n);
+    converts(old, n, form, longest(form));
+    old[n] = 0;
+    refuses((struct call){FROM_FORM1, old, n + 1, 0, 0}, VAULT_UNREADABLE, n);
+    converts(both, sizeof both, both_now, sizeof both_now);
+    writes((struct call){COPY, both, sizeof both, 0, 0}, both, sizeof both, sizeof both);
+    check(is(vault_held(both, sizeof both, 26), VAULT_DONE, 0, 2) && is(vault_either(both, sizeof both, 26), VAULT_DONE, 0, 3), "today's form", 0);
+    check(is(vault_held(both_now, sizeof both_now, 26), VAULT_DONE, 0, 131587), "the old form of the same bytes", 0);
+    faulty_old_forms();
+    /* neither reading takes the other's sheets: an either combination 240; bytes left over; seconds above the limit */
+    refuses((struct call){COPY, sample1, sizeof sample1, 0, 0}, VAULT_UNREADABLE, 9);
+    refuses((struct call){FROM_FORM1, sample, sizeof sample, 0, 0}, VAULT_UNREADABLE, 8);
+    refuses((struct call){FROM_FORM1, mixed, sizeof mixed, 0, 0}, VAULT_UNREADABLE, 7);
 }
 
 static void listing(void)
@@ -311,6 +526,82 @@ static void listing(void)
     }
 }
 
+/* Lists of sheets with either combinations, worked out by hand. A line has such a combination only where that makes the list shorter: a line of more
+   combinations has a larger number. */
+static void listing_either(void)
+{
+    static const struct {
+        uint64_t marks;
+        uint32_t class, either;
+        size_t lines;
+        uint8_t list[4];
+    } known[] = {
+        {1, 0x1, 0x2, 1, {0}},
+        {1, 0x2, 0x1, 1, {1}},
+        {1, 0x0, 0x3, 0, {0}},
+        {2, 0x2, 0x8, 1, {1}},
+        {2, 0xe, 0x1, 1, {8}},
+        {2, 0x9, 0x2, 2, {0, 4}},
+        {2, 0x9, 0x6, 1, {8}},
+        {2, 0x6, 0x1, 2, {1, 3}},
+        {2, 0x6, 0x9, 1, {8}},
+        /* 001 and --0, in this order: the lowest combination of --0 in the class is 2, though it has 0 too */
+        {3, 0x56, 0x01, 2, {1, 24}},
+        /* one of three carriers: that it is the first or the second is one line, --0 */
+        {3, 0x14, 0xe9, 1, {24}},
+        {3, 0x96, 0x69, 1, {26}},
+        {3, 0x16, 0x01, 3, {1, 3, 9}},
+        /* 1 to 6, with 0, with 7, and with both */
+        {3, 0x7e, 0x01, 3, {7, 21, 11}},
+        {3, 0x7e, 0x80, 3, {1, 5, 17}},
+        {3, 0x7e, 0x81, 1, {26}},
+        {5, 0x00000001, 0xfffffffe, 1, {0}},
+        {5, 0x80000000, 0x7fffffff, 1, {121}},
+        {5, 0x80000001, 0x7ffffffe, 1, {242}},
+        {5, 0x00000000, 0xffffffff, 0, {0}},
+    };
+    uint8_t form[VAULT_FORM_SIZE];
+    for (size_t i = 0; i < sizeof known / sizeof *known; i++) {
+        size_t n = drawn_with(form, known[i].marks, known[i].class, known[i].either);
+        writes((struct call){LIST, form, n, 0, 0}, known[i].list, known[i].lines, VAULT_COMBINATIONS(known[i].marks));
+        check(vault_check_list(form, n, known[i].list, known[i].lines).fault == VAULT_FITS, "it fits", (long)i);
+    }
+    writes((struct call){LIST, mixed, sizeof mixed, 0, 0}, (const uint8_t[]){1}, 1, 4);
+}
+
+/* The kept numbers of every line of a sheet with every standing, by the digits of its number. */
+static void lines_of_thirds(void)
+{
+    uint8_t form[VAULT_FORM_SIZE];
+    size_t n = thirds(form);
+    for (uint64_t b = 0; b < VAULT_LINES(5); b++) {
+        uint64_t outside = 0, either = 0, held = 0;
+        for (uint64_t c = 0; c < 32; c++) {
+            outside += has(5, b, c) && c % 3 == 2;
+            either += has(5, b, c) && c % 3 == 1;
+            held += has(5, b, c) && c % 3 != 1 ? c + 1 : 0;
+        }
+        check(is(vault_outside(form, n, b), VAULT_DONE, 0, outside), "vault_outside of every standing", (long)b);
+        check(is(vault_either(form, n, b), VAULT_DONE, 0, either), "vault_either of every standing", (long)b);
+        check(is(vault_held(form, n, b), VAULT_DONE, 0, held), "vault_held of every standing", (long)b);
+    }
+}
+
+/* Of the sheet of two marks with every standing, written out. */
+static void lines_of_mixed(void)
+{
+    static const uint64_t outside[9] = {1, 0, 1, 1, 0, 1, 2, 0, 2}, either[9] = {0, 0, 0, 0, 1, 1, 0, 1, 1};
+    static const uint64_t held[9] = {240, 150, 390, 0, 0, 0, 240, 150, 390};
+    for (uint64_t b = 0; b < VAULT_LINES(2); b++) {
+        check(is(vault_outside(mixed, sizeof mixed, b), VAULT_DONE, 0, outside[b]), "vault_outside of two marks", (long)b);
+        check(is(vault_either(mixed, sizeof mixed, b), VAULT_DONE, 0, either[b]), "vault_either of two marks", (long)b);
+        check(is(vault_held(mixed, sizeof mixed, b), VAULT_DONE, 0, held[b]), "vault_held of two marks", (long)b);
+        check(is(vault_either(sample, sizeof sample, b), VAULT_DONE, 0, 0), "vault_either of the sample", (long)b);
+    }
+    check(is(vault_class_size(mixed, sizeof mixed), VAULT_DONE, 0, 1), "its class", 0);
+    check(is(vault_total(mixed, sizeof mixed), VAULT_DONE, 0, 150), "its total", 0);
+}
+
 /* The kept numbers of every line, by the digits of its number; and 0 for a number that is no line. */
 static void lines(void)
 {
@@ -322,7 +613,10 @@ static void lines(void)
             held += has(5, b, c) ? c + 1 : 0;
         check(is(vault_held(form, n, b), VAULT_DONE, 0, held), "vault_held", (long)b);
         check(is(vault_outside(form, n, b), VAULT_DONE, 0, 0), "vault_outside", (long)b);
+        check(is(vault_either(form, n, b), VAULT_DONE, 0, 0), "vault_either", (long)b);
     }
+    lines_of_thirds();
+    lines_of_mixed();
     static const uint64_t outside[9] = {1, 0, 1, 0, 0, 0, 1, 0, 1}, held[9] = {240, 150, 390, 0, 600, 600, 240, 750, 990};
     for (uint64_t b = 0; b < VAULT_LINES(2); b++) {
         check(is(vault_outside(sample, sizeof sample, b), VAULT_DONE, 0, outside[b]), "vault_outside of the sample", (long)b);
@@ -332,6 +626,7 @@ static void lines(void)
     for (size_t i = 0; i < sizeof beyond / sizeof *beyond; i++) {
         check(is(vault_outside(sample, sizeof sample, beyond[i]), VAULT_DONE, 0, 0), "no line", (long)i);
         check(is(vault_held(sample, sizeof sample, beyond[i]), VAULT_DONE, 0, 0), "no line", (long)i);
+        check(is(vault_either(mixed, sizeof mixed, beyond[i]), VAULT_DONE, 0, 0), "no line", (long)i);
     }
     check(is(vault_class_size(sample, sizeof sample), VAULT_DONE, 0, 3), "class size of the sample", 0);
     check(is(vault_total(sample, sizeof sample), VAULT_DONE, 0, 750), "total of the sample", 0);
@@ -369,7 +664,7 @@ static int judged(struct vault_verdict v, uint64_t answer, uint64_t place, uint6
 }
 
 /* What is wrong with a short list, from the rules: fault by fault, and every two lines for themselves. */
-static struct vault_verdict recounted(uint64_t marks, uint32_t class, const uint8_t *list, size_t n)
+static struct vault_verdict recounted(uint64_t marks, uint32_t class, uint32_t either, const uint8_t *list, size_t n)
 {
     const uint32_t *set = sets[marks];
     uint32_t covered = 0;
@@ -381,7 +676,7 @@ static struct vault_verdict recounted(uint64_t marks, uint32_t class, const uint
             if ((set[list[i]] & set[list[j]]) != 0)
                 return (struct vault_verdict){VAULT_DONE, 0, VAULT_OVERLAP, i};
     for (size_t i = 0; i < n; i++)
-        if ((set[list[i]] & ~class) != 0)
+        if ((set[list[i]] & ~(class | either)) != 0)
             return (struct vault_verdict){VAULT_DONE, 0, VAULT_LEAVES, i};
     for (size_t i = 0; i < n; i++)
         covered |= set[list[i]];
@@ -403,13 +698,18 @@ static struct vault_verdict verdict(const uint8_t *form, size_t size, const uint
     return v;
 }
 
-/* A list of a class is told as it is recounted. */
-static void recount(uint64_t marks, uint32_t class, const uint8_t *list, size_t n, const char *what)
+/* A list of a class is told as it is recounted, with either combinations and without. */
+static void recount_with(uint64_t marks, uint32_t class, uint32_t either, const uint8_t *list, size_t n, const char *what)
 {
     uint8_t form[VAULT_FORM_SIZE];
-    size_t size = drawn(form, marks, class);
-    struct vault_verdict v = verdict(form, size, list, n), want = recounted(marks, class, list, n);
+    size_t size = drawn_with(form, marks, class, either);
+    struct vault_verdict v = verdict(form, size, list, n), want = recounted(marks, class, either, list, n);
     check(judged(v, VAULT_DONE, 0, want.fault, want.at), what, (long)class);
+}
+
+static void recount(uint64_t marks, uint32_t class, const uint8_t *list, size_t n, const char *what)
+{
+    recount_with(marks, class, 0, list, n, what);
 }
 
 /* The rows say what is meant; each is recounted too. */
@@ -470,20 +770,81 @@ static void known_lists(void)
     check(judged(vault_check_list(sample, sizeof sample, NULL, 0), VAULT_DONE, 0, VAULT_UNCOVERED, 1), "no list", 0);
     check(judged(vault_check_list(full, sizeof full, NULL, 0), VAULT_DONE, 0, VAULT_FITS, 0), "no list, and an empty class", 0);
     check(judged(vault_check_list(sample, sizeof sample, (const uint8_t[]){5, 1}, 2), VAULT_DONE, 0, VAULT_FITS, 0), "what is held does not count", 0);
-    check(judged(vault_check_list(sample, sizeof sample, sample, sizeof sample), VAULT_DONE, 0, VAULT_NO_BOX, 9), "a sheet is its own list", 0);
+    check(judged(vault_check_list(sample, sizeof sample, sample, sizeof sample), VAULT_DONE, 0, VAULT_NO_BOX, 11), "a sheet is its own list", 0);
 }
 
-/* Every class of the marks, with every list of up to so many lines, each one of n values. */
-static void every_list(uint64_t marks, const uint8_t *values, size_t n, size_t most)
+/* The same of sheets with either combinations, which no two lines may share. */
+static void known_lists_with_either(void)
 {
-    for (uint32_t class = 0; class < UINT32_C(1) << VAULT_COMBINATIONS(marks); class++)
-        for (size_t k = 0, lists = 1; k <= most; k++, lists *= n)
-            for (size_t number = 0; number < lists; number++) {
-                uint8_t list[8];
-                for (size_t i = 0, x = number; i < k; i++, x /= n)
-                    list[i] = values[x % n];
-                recount(marks, class, list, k, "every list");
-            }
+    static const struct {
+        uint64_t marks;
+        uint32_t class, either;
+        size_t n;
+        uint8_t list[4];
+        uint64_t fault, at;
+    } t[] = {
+        /* 1 is in, 3 either: with it, without it, by itself; twice is a fault, and alone it does not do */
+        {2, 0x2, 0x8, 1, {1}, VAULT_FITS, 0},
+        {2, 0x2, 0x8, 1, {7}, VAULT_FITS, 0},
+        {2, 0x2, 0x8, 2, {1, 4}, VAULT_FITS, 0},
+        {2, 0x2, 0x8, 2, {4, 1}, VAULT_FITS, 0},
+        {2, 0x2, 0x8, 2, {7, 4}, VAULT_OVERLAP, 1},
+        {2, 0x2, 0x8, 2, {4, 7}, VAULT_OVERLAP, 1},
+        {2, 0x2, 0x8, 3, {1, 4, 4}, VAULT_OVERLAP, 2},
+        {2, 0x2, 0x8, 1, {4}, VAULT_UNCOVERED, 1},
+        {2, 0x2, 0x8, 0, {0}, VAULT_UNCOVERED, 1},
+        {2, 0x2, 0x8, 2, {1, 5}, VAULT_LEAVES, 1},
+        {2, 0x2, 0x8, 1, {8}, VAULT_LEAVES, 0},
+        {2, 0x2, 0x8, 2, {4, 9}, VAULT_NO_BOX, 1},
+        /* all are either: any lines that are apart */
+        {2, 0x0, 0xf, 0, {0}, VAULT_FITS, 0},
+        {2, 0x0, 0xf, 1, {8}, VAULT_FITS, 0},
+        {2, 0x0, 0xf, 2, {0, 4}, VAULT_FITS, 0},
+        {2, 0x0, 0xf, 2, {8, 0}, VAULT_OVERLAP, 1},
+        /* 0 is either: in a line, or not, but not in two */
+        {2, 0xe, 0x1, 1, {8}, VAULT_FITS, 0},
+        {2, 0xe, 0x1, 2, {1, 5}, VAULT_FITS, 0},
+        {2, 0xe, 0x1, 2, {6, 7}, VAULT_FITS, 0},
+        {2, 0xe, 0x1, 3, {2, 6, 4}, VAULT_OVERLAP, 1},
+        {2, 0xe, 0x1, 1, {2}, VAULT_UNCOVERED, 2},
+        /* one of three carriers, not the third */
+        {3, 0x14, 0xe9, 1, {24}, VAULT_FITS, 0},
+        {3, 0x14, 0xe9, 2, {24, 22}, VAULT_FITS, 0},
+        {3, 0x14, 0xe9, 2, {9, 3}, VAULT_FITS, 0},
+        {3, 0x14, 0xe9, 1, {26}, VAULT_LEAVES, 0},
+        {3, 0x14, 0xe9, 1, {22}, VAULT_UNCOVERED, 2},
+        {5, 0x00000001, 0x7ffffffe, 1, {242}, VAULT_LEAVES, 0},
+        {5, 0x00000001, 0xfffffffe, 1, {242}, VAULT_FITS, 0},
+    };
+    for (size_t i = 0; i < sizeof t / sizeof *t; i++) {
+        uint8_t form[VAULT_FORM_SIZE];
+        size_t size = drawn_with(form, t[i].marks, t[i].class, t[i].either);
+        check(judged(verdict(form, size, t[i].list, t[i].n), VAULT_DONE, 0, t[i].fault, t[i].at), "a known list with either combinations", (long)i);
+        recount_with(t[i].marks, t[i].class, t[i].either, t[i].list, t[i].n, "and recounted");
+    }
+    check(judged(vault_check_list(mixed, sizeof mixed, NULL, 0), VAULT_DONE, 0, VAULT_UNCOVERED, 1), "no list, and an either combination", 0);
+}
+
+/* Every list of up to so many lines, each one of n values, for a sheet. */
+static void every_list_of(uint64_t marks, uint32_t class, uint32_t either, const uint8_t *values, size_t n, size_t most)
+{
+    for (size_t k = 0, lists = 1; k <= most; k++, lists *= n)
+        for (size_t number = 0; number < lists; number++) {
+            uint8_t list[8];
+            for (size_t i = 0, x = number; i < k; i++, x /= n)
+                list[i] = values[x % n];
+            recount_with(marks, class, either, list, k, "every list");
+        }
+}
+
+/* Every class of the marks, with every set of either combinations beside it that is within these. */
+static void every_list(uint64_t marks, uint32_t within, const uint8_t *values, size_t n, size_t most)
+{
+    uint32_t sheets = UINT32_C(1) << VAULT_COMBINATIONS(marks);
+    for (uint32_t class = 0; class < sheets; class++)
+        for (uint32_t either = 0; either < sheets; either++)
+            if ((either & class) == 0 && (either & ~within) == 0)
+                every_list_of(marks, class, either, values, n, most);
 }
 
 /* Every byte value by itself, in front of a line and behind it: with the class that the line makes, a combination less, one more, none and all. */
@@ -499,6 +860,8 @@ static void every_value(uint64_t marks)
             recount(marks, classes[i], list, 2, "every value behind a line");
             recount(marks, classes[i], list + 1, 2, "every value before a line");
             recount(marks, classes[i], list, 3, "every value between lines");
+            recount_with(marks, classes[i] & own, ~classes[i] & own, list + 1, 1, "every value, some of it either");
+            recount_with(marks, classes[i] & ~own, own, list, 3, "every value, all of it either");
         }
     }
 }
@@ -515,6 +878,8 @@ static void every_two(uint64_t marks)
             struct vault_verdict v = verdict(form, drawn(form, marks, class), list, 2);
             check(judged(v, VAULT_DONE, 0, apart ? VAULT_FITS : VAULT_OVERLAP, apart ? 0 : 1), "two lines", (long)(a * 243 + b));
             recount(marks, class, three, 3, "three lines");
+            recount_with(marks, sets[marks][b] & ~sets[marks][a], sets[marks][a], list, 2, "two lines, the first of them either");
+            recount_with(marks, sets[marks][a], class & ~sets[marks][a], three, 3, "three lines, and the last of them either");
         }
 }
 
@@ -569,6 +934,7 @@ static void every_gap(uint64_t marks, int down)
             other[j] = list[i];
             recount(marks, all, other, size, "a combination twice");
             recount(marks, all & ~(UINT32_C(1) << i | UINT32_C(1) << j), list, size, "two combinations outside");
+            recount_with(marks, all & ~(UINT32_C(1) << i), UINT32_C(1) << i, other, size, "a combination twice, and either");
         }
     for (uint32_t b = 0; b < 256; b++) {
         list[size] = (uint8_t)b;
@@ -636,19 +1002,26 @@ static void unread(const uint8_t *bytes, size_t n, long which)
         check(judged(vault_check_list(bytes, n, NULL, 0), r.answer, r.place, 0, 0), "a spoiled sheet and no list", which);
 }
 
+/* A sheet with any byte at any place, and with any number of its bytes. */
+static void spoiled_sheet(const uint8_t *sheet, size_t size)
+{
+    uint8_t bytes[VAULT_FORM_SIZE];
+    for (size_t at = 0; at < size; at++)
+        for (int byte = 0; byte < 256; byte++) {
+            memcpy(bytes, sheet, size);
+            bytes[at] = (uint8_t)byte;
+            unread(bytes, size, (long)at);
+        }
+    memcpy(bytes, sheet, size);
+    bytes[size] = 0;
+    for (size_t n = 0; n <= size + 1; n++)
+        unread(bytes, n, (long)n);
+}
+
 static void spoiled_sheets(void)
 {
-    uint8_t bytes[sizeof sample + 1];
-    for (size_t at = 0; at < sizeof sample; at++)
-        for (int byte = 0; byte < 256; byte++) {
-            memcpy(bytes, sample, sizeof sample);
-            bytes[at] = (uint8_t)byte;
-            unread(bytes, sizeof sample, (long)at);
-        }
-    memcpy(bytes, sample, sizeof sample);
-    bytes[sizeof sample] = 0;
-    for (size_t n = 0; n <= sizeof bytes; n++)
-        unread(bytes, n, (long)n);
+    spoiled_sheet(sample, sizeof sample);
+    spoiled_sheet(mixed, sizeof mixed);
     check(judged(vault_check_list(NULL, 0, NULL, 0), VAULT_UNREADABLE, 0, 0, 0), "no sheet and no list", 0);
     check(judged(vault_check_list(NULL, 0, sample, 3), VAULT_UNREADABLE, 0, 0, 0), "no sheet", 0);
 }
@@ -661,9 +1034,11 @@ static void checking(void)
         all[b] = (uint8_t)b;
     fill_sets();
     known_lists();
-    every_list(1, all, 256, 2);
-    every_list(1, few, sizeof few, 5);
-    every_list(2, some, sizeof some, 4);
+    known_lists_with_either();
+    every_list(1, 0, all, 256, 2);
+    every_list(1, 0x3, few, sizeof few, 5);
+    every_list(2, 0, some, sizeof some, 4);
+    every_list(2, 0xf, some, sizeof some, 3);
     for (uint64_t m = 1; m <= 5; m++) {
         every_value(m);
         every_two(m);
@@ -1238,7 +1613,7 @@ static void byte_at(const char *text, size_t at, int byte, uint64_t answer, uint
     memcpy(changed, text, n);
     changed[at] = (uint8_t)byte;
     struct vault_reply r = vault_read_pla(changed, n, form, sizeof form);
-    check(is(r, answer, place, answer == VAULT_DONE ? 5 + combinations : 0), text, byte);
+    check(is(r, answer, place, answer == VAULT_DONE ? 7 + combinations : 0), text, byte);
 }
 
 /* Every byte at each place of a line that means something. `?` stands for it. */
@@ -1372,15 +1747,24 @@ static void every_cube(void)
     }
 }
 
-/* The text of a sheet is written exactly if there is room for it, and it is read back. */
-static void text_of(const uint8_t *form, size_t n, const char *want)
+/* The text of a sheet is written exactly if there is room for it, and a sheet of this class is read back. */
+static void text_with(const uint8_t *form, size_t n, const char *want, uint32_t class)
+{
+    size_t size = strlen(want);
+    uint8_t back[VAULT_FORM_SIZE], as[VAULT_FORM_SIZE];
+    writes((struct call){WRITE_PLA, form, n, 0, 0}, (const uint8_t *)want, size, size);
+    struct vault_reply r = vault_read_pla(want, size, back, sizeof back);
+    check(is(r, VAULT_DONE, 0, drawn(as, form[0], class)) && memcmp(back, as, (size_t)r.value) == 0, "a text read back", (long)n);
+}
+
+/* Of a sheet without either combinations it is the sheet's own class, and its text is the same. */
+static void text_of(const uint8_t *form, size_t n, const char *want, uint32_t class)
 {
     size_t size = strlen(want);
     uint8_t back[VAULT_FORM_SIZE], again[VAULT_PLA_SIZE];
-    writes((struct call){WRITE_PLA, form, n, 0, 0}, (const uint8_t *)want, size, size);
-    struct vault_reply r = vault_read_pla(want, size, back, sizeof back);
-    check(r.answer == VAULT_DONE && memcmp(back, form, 3 + (size_t)form[1]) == 0 && r.value == 5 + (uint64_t)form[1], "a text read back", (long)n);
-    check(is(vault_write_pla(back, (size_t)r.value, again, sizeof again), VAULT_DONE, 0, size) && memcmp(again, want, size) == 0, "written again", (long)n);
+    text_with(form, n, want, class);
+    size_t k = drawn(back, form[0], class);
+    check(is(vault_write_pla(back, k, again, sizeof again), VAULT_DONE, 0, size) && memcmp(again, want, size) == 0, "written again", (long)n);
 }
 
 static void writing_texts(void)
@@ -1409,12 +1793,37 @@ static void writing_texts(void)
     };
     uint8_t form[VAULT_FORM_SIZE];
     for (size_t i = 0; i < sizeof known / sizeof *known; i++)
-        text_of(form, drawn(form, known[i].marks, known[i].class), known[i].text);
+        text_of(form, drawn(form, known[i].marks, known[i].class), known[i].text, known[i].class);
     check(strlen(known[13].text) == VAULT_PLA_SIZE, "the longest text", (long)strlen(known[13].text));
     /* what is held does not show, and the longest form has the shortest list */
-    text_of(sample, sizeof sample, known[6].text);
-    text_of(form, longest(form), known[11].text);
-    text_of(full, sizeof full, known[0].text);
+    text_of(sample, sizeof sample, known[6].text, 0xe);
+    text_of(form, longest(form), known[11].text, 0xffffffff);
+    text_of(full, sizeof full, known[0].text, 0);
+}
+
+/* What is read back has in its class the either combinations of the lines, too, and no other. */
+static void writing_texts_with_either(void)
+{
+    static const struct {
+        uint64_t marks;
+        uint32_t class, either;
+        const char *text;
+        uint32_t back;
+    } known[] = {
+        {1, 0x1, 0x2, ".i 1\n.o 1\n.p 1\n0 1\n.e\n", 0x1},
+        {1, 0x0, 0x3, ".i 1\n.o 1\n.p 0\n.e\n", 0x0},
+        {2, 0x2, 0x8, ".i 2\n.o 1\n.p 1\n01 1\n.e\n", 0x2},
+        {2, 0xe, 0x1, ".i 2\n.o 1\n.p 1\n-- 1\n.e\n", 0xf},
+        {3, 0x14, 0xe9, ".i 3\n.o 1\n.p 1\n--0 1\n.e\n", 0x55},
+        {3, 0x56, 0x01, ".i 3\n.o 1\n.p 2\n001 1\n--0 1\n.e\n", 0x57},
+        {3, 0x7e, 0x80, ".i 3\n.o 1\n.p 3\n001 1\n01- 1\n1-- 1\n.e\n", 0xfe},
+        {5, 0x80000001, 0x7ffffffe, ".i 5\n.o 1\n.p 1\n----- 1\n.e\n", 0xffffffff},
+        {5, 0, 0xffffffff, ".i 5\n.o 1\n.p 0\n.e\n", 0},
+    };
+    uint8_t form[VAULT_FORM_SIZE];
+    for (size_t i = 0; i < sizeof known / sizeof *known; i++)
+        text_with(form, drawn_with(form, known[i].marks, known[i].class, known[i].either), known[i].text, known[i].back);
+    text_with(mixed, sizeof mixed, known[2].text, 0x2);
 }
 
 static void pla(void)
@@ -1427,6 +1836,7 @@ static void pla(void)
     long_texts();
     every_cube();
     writing_texts();
+    writing_texts_with_either();
 }
 
 /* Threads with the stack that the header names and some for the C library itself (or the least there is), each on its own areas. */
@@ -1458,7 +1868,10 @@ static void *night(void *arg)
         struct vault_verdict v = vault_check_list(form[now], n, list, (size_t)r.value);
         wrong += v.answer != VAULT_DONE || v.fault != VAULT_FITS;
         r = vault_write_pla(form[now], n, text, sizeof text);
-        wrong += r.answer != VAULT_DONE || vault_read_pla(text, (size_t)r.value, form[!now], VAULT_FORM_SIZE).value != 5 + size;
+        wrong += r.answer != VAULT_DONE || vault_read_pla(text, (size_t)r.value, form[!now], VAULT_FORM_SIZE).value != 7 + size;
+        wrong += vault_make_either(sample, sizeof sample, 2, form[!now], VAULT_FORM_SIZE).value != sizeof sample;
+        wrong += vault_list(form[!now], sizeof sample, list, sizeof list).value != 1 || list[0] != 7;
+        wrong += vault_from_form1(sample1, sizeof sample1, form[!now], VAULT_FORM_SIZE).value != sizeof sample;
         struct vault_time time = seed % 2 ? vault_read_time("1:30:00", 7) : vault_read_time("90:00", 5);
         wrong += time.answer != VAULT_DONE || time.value != 5400 || time.form != (seed % 2 ? VAULT_IN_HOURS : VAULT_IN_MINUTES);
     }
@@ -1485,10 +1898,14 @@ int main(void)
 {
     opening();
     class_changes();
+    either_changes();
     movements();
+    either_movements();
     reading();
     copying();
+    old_forms();
     listing();
+    listing_either();
     lines();
     comparing();
     checking();

@@ -1,6 +1,6 @@
-//! Compares the library with tests/model.rs: of every class of up to four marks the list, the PLA text, that text read back, the list checked, and a
-//! list that someone else drew; then random calls of every entry. They go to a program that makes them (tests/driver.c), and its replies and all the bytes of the areas that were lent, with those
-//! around them, must be the model's.
+//! Compares the library with tests/model.rs: of every class of up to four marks, and up to three marks with every choice of either combinations, the
+//! list, the PLA text, that text read back, the list checked, and a list that someone else drew; then random calls of every entry. They go to a program
+//! that makes them (tests/driver.c), and its replies and all the bytes of the areas that were lent, with those around them, must be the model's.
 //!
 //!     differential CALLS SEED PROGRAM WORD..
 //!
@@ -9,15 +9,15 @@
 mod model;
 mod random;
 
-use model::{cube, done, is_before, pla, read_pla, refused, Lists, Reply, Sheet, Times, HOURS, MINUTES, MOST_AMOUNT, MOST_HELD};
+use model::{cube, done, is_before, laid, pla, read_pla, refused, Lists, Reply, Sheet, Standing, Times, HOURS, MINUTES, MOST_AMOUNT, MOST_HELD};
 use model::{FITS, LEAVES, NO_BOX, OVERLAP, UNCOVERED};
 use random::Random;
 use std::io::{Read, Write};
 use std::process::{Child, Command, Stdio};
 
 #[rustfmt::skip]
-const NAMES: [&str; 16] = ["open", "enter", "leave", "receive", "withdraw", "copy", "list", "class_size", "total", "outside", "held", "before", "read_time",
-    "read_pla", "write_pla", "check_list"];
+const NAMES: [&str; 19] = ["open", "enter", "leave", "receive", "withdraw", "copy", "list", "class_size", "total", "outside", "held", "before", "read_time",
+    "read_pla", "write_pla", "check_list", "make_either", "either", "from_form1"];
 
 /// Lines that no PLA text of ours has, or that have a meaning of their own.
 #[rustfmt::skip]
@@ -111,12 +111,18 @@ impl Tests {
         }
     }
 
-    /// A sheet of any class, that may hold as much as a sheet can.
+    /// A sheet of any class, without either combinations or with a few or many, that may hold as much as a sheet can.
     fn sheet(&mut self) -> Sheet {
         let mut sheet = Sheet::open(self.r.of(&[1, 2, 3, 4, 5, 5])).unwrap();
-        let (dense, filled) = (self.r.below(101), self.r.of(&[0, 10, 50, 100]));
-        for c in 0..sheet.class.len() {
-            sheet.class[c] = self.r.below(100) < dense;
+        let (dense, either, filled) = (self.r.below(101), self.r.of(&[0, 0, 10, 30, 60, 95]), self.r.of(&[0, 10, 50, 100]));
+        for c in 0..sheet.standing.len() {
+            if self.r.below(100) < either {
+                sheet.standing[c] = Standing::Either;
+                continue;
+            }
+            if self.r.below(100) < dense {
+                sheet.standing[c] = Standing::In;
+            }
             if self.r.below(100) < filled {
                 let most = self.r.of(&[1, 300, 36_000, 40_000_000, MOST_HELD]);
                 let rest = MOST_HELD - sheet.held.iter().sum::<u64>();
@@ -126,24 +132,83 @@ impl Tests {
         if self.r.one_in(4) {
             let c = self.r.below(sheet.size()) as usize;
             let rest = MOST_HELD - sheet.held.iter().sum::<u64>();
-            sheet.held[c] += rest.saturating_sub(self.r.of(&[0, 1, 600, 35_998, 35_999, 36_000]));
+            if sheet.standing[c] != Standing::Either {
+                sheet.held[c] += rest.saturating_sub(self.r.of(&[0, 1, 600, 35_998, 35_999, 36_000]));
+            }
         }
         sheet
     }
 
-    /// Bytes that are mostly a sheet's: as they are, or damaged in one place.
-    fn form(&mut self) -> Vec<u8> {
+    /// One of the sheets that calls are made on; now and then it is a new one.
+    fn one_of_pool(&mut self) -> Sheet {
         let at = self.r.below(self.pool.len() as u64) as usize;
         if self.r.one_in(40) {
             self.pool[at] = self.sheet();
         }
-        let mut form = self.pool[at].form();
+        self.pool[at].clone()
+    }
+
+    /// Bytes that are mostly a sheet's: as they are, or damaged in one place, or such that sections do not go together, or of the old form.
+    fn form(&mut self) -> Vec<u8> {
+        let sheet = self.one_of_pool();
         if self.r.below(4) != 0 {
-            return form;
+            return sheet.form();
         }
+        let second = 3 + sheet.class_size() as usize;
+        let third = second + 2 + sheet.standing_so(Standing::Either).len();
+        match self.r.below(18) {
+            0..=2 => self.clashing(&sheet),
+            3 => sheet.form1(),
+            4 => self.both_forms(),
+            _ => self.damaged(sheet.form(), &[1, second, third]),
+        }
+    }
+
+    /// Bytes that are mostly an old form, likewise.
+    fn old_form(&mut self) -> Vec<u8> {
+        let sheet = self.one_of_pool();
+        let second = 3 + sheet.class_size() as usize;
+        match self.r.below(12) {
+            0..=5 => sheet.form1(),
+            6 => sheet.form(),
+            7 => self.both_forms(),
+            _ => self.damaged(sheet.form1(), &[1, second]),
+        }
+    }
+
+    /// A form with either combinations that are in the class, or that hold something, or none that is so.
+    fn clashing(&mut self, sheet: &Sheet) -> Vec<u8> {
+        let (class, mut either, held) = (sheet.standing_so(Standing::In), sheet.standing_so(Standing::Either), sheet.holding());
+        let others: Vec<u8> = if self.r.one_in(2) { class.clone() } else { held.iter().map(|&(c, _)| c).collect() };
+        for _ in 0..self.r.of(&[1, 1, 2, 5]) {
+            if !others.is_empty() {
+                either.push(self.r.of(&others));
+            }
+        }
+        either.sort_unstable();
+        either.dedup();
+        laid(sheet.marks, &class, Some(&either), &held)
+    }
+
+    /// Bytes that are a sheet in either form: three held combinations of the old one are three either combinations, a count, and two held ones.
+    fn both_forms(&mut self) -> Vec<u8> {
+        let marks = self.r.of(&[3, 4, 5]);
+        let mut some: Vec<u8> = (0..1 << marks).collect();
+        self.shuffle(&mut some);
+        let (five, rest) = some.split_at_mut(5);
+        let class = &mut rest[..self.r.below(4) as usize];
+        five.sort_unstable();
+        class.sort_unstable();
+        let [a, b, c, d, e] = self.r.of(&[[0, 1, 2, 3, 4], [0, 2, 4, 1, 3], [0, 3, 4, 1, 2], [0, 1, 4, 2, 3]]).map(|i: usize| five[i]);
+        let seconds = u64::from(b) | u64::from(c) << 8 | 2 << 16;
+        laid(marks, class, None, &[(a, seconds), (d, 1 + self.r.below(9)), (e, 1 + self.r.below(9))])
+    }
+
+    /// A form damaged in one place. `counts` says where those of its sections stand; what is held is the last.
+    fn damaged(&mut self, mut form: Vec<u8>, counts: &[usize]) -> Vec<u8> {
         let n = form.len() as u64;
         let i = self.r.below(n) as usize;
-        let second = 3 + self.pool[at].class_size() as usize;
+        let count = self.r.of(counts);
         match self.r.below(14) {
             0 => form.truncate(i),
             1 => form.extend(self.r.bytes(1)),
@@ -155,16 +220,15 @@ impl Tests {
             4 => form[i] ^= 1 << self.r.below(8),
             5 => form[i] = self.r.next() as u8,
             6 => form[i] = form[i].wrapping_add(self.r.of(&[1, 255])),
-            7 => form[1] = form[1].wrapping_add(self.r.of(&[1, 255, 32])),
-            8 => form[second] = form[second].wrapping_add(self.r.of(&[1, 255, 32])),
-            9 => form[self.r.of(&[2, second + 1])] = self.r.of(&[1, 2, 128, 255]),
+            7 | 8 => form[count] = form[count].wrapping_add(self.r.of(&[1, 255, 32])),
+            9 => form[count + 1] = self.r.of(&[1, 2, 128, 255]),
             10 => form.swap(i, (i + 1) % n as usize),
             11 => {
                 form.remove(i);
             }
-            12 => return self.heavy(second, form),
+            12 => return self.heavy(counts[counts.len() - 1], form),
             _ => {
-                let m = self.r.of(&[0, 0, 1, 2, 3, 4, 5, 6, 20, 197, 2000]);
+                let m = self.r.of(&[0, 0, 1, 2, 3, 4, 5, 6, 7, 8, 20, 197, 199, 2000]);
                 form = self.r.bytes(m);
                 if let Some(b) = form.first_mut() {
                     *b %= 7;
@@ -175,10 +239,10 @@ impl Tests {
     }
 
     /// Other seconds in one held combination: 0, or such that some sum goes above the limit, by one or by much.
-    fn heavy(&mut self, second: usize, mut form: Vec<u8>) -> Vec<u8> {
-        let held = (form.len() - second - 2) / 5;
+    fn heavy(&mut self, last: usize, mut form: Vec<u8>) -> Vec<u8> {
+        let held = (form.len() - last - 2) / 5;
         if held > 0 {
-            let at = second + 3 + 5 * self.r.below(held as u64) as usize;
+            let at = last + 3 + 5 * self.r.below(held as u64) as usize;
             let top = MOST_HELD as u32;
             let seconds: u32 = self.r.of(&[0, 1, top - 1, top, top + 1, u32::MAX, 1 << 31]);
             form[at..at + 4].copy_from_slice(&seconds.to_le_bytes());
@@ -192,7 +256,7 @@ impl Tests {
             0 => self.r.below(needed as u64 + 1),
             1 => self.r.below(250),
             2 => 0,
-            3 => 197,
+            3 => self.r.of(&[197, 199]),
             _ => (needed as u64 + self.r.below(7)).saturating_sub(3),
         };
         self.r.bytes(n)
@@ -227,8 +291,8 @@ impl Tests {
     fn open(&mut self) -> Call {
         let marks = self.number(6);
         let written = Sheet::open(marks).map(|s| s.form());
-        let room = self.room(5);
-        self.writing(0, [marks, 0], None, written, 5, room)
+        let room = self.room(7);
+        self.writing(0, [marks, 0], None, written, 7, room)
     }
 
     /// One of the calls that change a sheet. What was accepted takes the old sheet's place among those that later calls are made on.
@@ -240,8 +304,9 @@ impl Tests {
         let seconds = self.seconds(&like, c);
         let mut sheet = like;
         let changed = read.map(|_| ()).and_then(|()| match entry {
-            1 => sheet.change(c, true),
-            2 => sheet.change(c, false),
+            1 => sheet.change(c, Standing::In),
+            2 => sheet.change(c, Standing::Out),
+            16 => sheet.change(c, Standing::Either),
             3 => sheet.receive(c, seconds),
             4 => sheet.withdraw(c, seconds),
             _ => Ok(()),
@@ -255,6 +320,14 @@ impl Tests {
             self.pool[at] = sheet;
         }
         call
+    }
+
+    fn from_form1(&mut self) -> Call {
+        let old = self.old_form();
+        let written = Sheet::read_form1(&old).map(|s| s.form());
+        let needed = written.as_ref().map_or(60, Vec::len);
+        let room = self.room(needed);
+        self.writing(18, [0, 0], Some(old), written, needed, room)
     }
 
     fn list(&mut self) -> Call {
@@ -283,6 +356,7 @@ impl Tests {
                 7 => s.class_size(),
                 8 => s.total(),
                 9 => s.outside(line),
+                17 => s.either(line),
                 _ => s.held_in(line),
             }),
         };
@@ -536,10 +610,11 @@ impl Tests {
 
     /// The PLA text of a class, and that text read, into areas of just the size.
     fn pla_of(&mut self, sheet: &Sheet) -> [Call; 2] {
-        let text = pla(sheet.marks, &self.lists.first_shortest(sheet));
-        let (room, back) = (self.r.bytes(text.len() as u64), self.r.bytes(5 + sheet.class_size()));
+        let list = self.lists.first_shortest(sheet);
+        let (text, read) = (pla(sheet.marks, &list), sheet.covered_by(&list).form());
+        let (room, back) = (self.r.bytes(text.len() as u64), self.r.bytes(read.len() as u64));
         let write = self.writing(14, [0, 0], Some(sheet.form()), Ok(text.clone()), text.len(), room);
-        let read = self.writing(13, [0, 0], Some(text), Ok(sheet.form()), back.len(), back);
+        let read = self.writing(13, [0, 0], Some(text), Ok(read), back.len(), back);
         [write, read]
     }
 
@@ -615,8 +690,20 @@ impl Tests {
         list
     }
 
-    /// A list for a sheet, as another archive might draw it: the sheet's own, or that of another class, its lines cut in pieces, in any order, and some things
-    /// done to it; or a long one, or any bytes, or none.
+    /// Lines of an either combination alone, somewhere in a list: faults only where a line of it has the combination already.
+    fn add_either(&mut self, sheet: &Sheet, list: &mut Vec<u8>) {
+        let either = sheet.standing_so(Standing::Either);
+        for _ in 0..self.r.of(&[1, 1, 2, 4]) {
+            if !either.is_empty() {
+                let c = self.r.of(&either);
+                let at = self.r.below(list.len() as u64 + 1) as usize;
+                list.insert(at, (0..sheet.marks).map(|i| (c >> i & 1) * 3u8.pow(i)).sum());
+            }
+        }
+    }
+
+    /// A list for a sheet, as another archive might draw it: the sheet's own, or that of another class, its lines cut in pieces, in any order, with lines of
+    /// either combinations alone, and some things done to it; or a long one, or any bytes, or none.
     fn drawn_list(&mut self, sheet: &Sheet) -> Vec<u8> {
         let (kind, n) = (self.r.below(32), self.r.below(40));
         match kind {
@@ -637,6 +724,9 @@ impl Tests {
         }
         if !self.r.one_in(4) {
             self.shuffle(&mut list);
+        }
+        if self.r.one_in(4) {
+            self.add_either(sheet, &mut list);
         }
         for _ in 0..self.r.of(&[0, 0, 1, 1, 1, 2, 3]) {
             self.redraw(sheet.marks, &mut list);
@@ -663,8 +753,11 @@ impl Tests {
     }
 
     fn call(&mut self) -> Call {
-        match self.r.below(46) {
+        match self.r.below(53) {
             40..=45 => self.check_list(),
+            46..=48 => self.change(16),
+            49..=50 => self.told(17),
+            51..=52 => self.from_form1(),
             26..=32 => self.read_pla(),
             33..=35 => self.write_pla(),
             36..=39 => self.read_time(),
@@ -685,14 +778,21 @@ impl Tests {
     }
 }
 
-/// Every class of one to four marks.
-fn every_class() -> impl Iterator<Item = Sheet> {
-    let of = |marks: u64| (0u32..1 << (1 << marks)).map(move |class| (marks, class));
-    (1..=4).flat_map(of).map(|(marks, class)| {
+/// Every sheet of these marks whose combinations have these standings and that holds nothing.
+fn every(marks: u64, standings: &'static [Standing]) -> impl Iterator<Item = Sheet> {
+    let n = standings.len() as u64;
+    (0..n.pow(1 << marks)).map(move |number| {
         let mut sheet = Sheet::open(marks).unwrap();
-        sheet.class.iter_mut().enumerate().for_each(|(c, standing)| *standing = class >> c & 1 == 1);
+        for (c, standing) in sheet.standing.iter_mut().enumerate() {
+            *standing = standings[(number / n.pow(c as u32) % n) as usize];
+        }
         sheet
     })
+}
+
+/// Every sheet of one to three marks that holds nothing, and every one of four marks without either combinations.
+fn every_sheet() -> impl Iterator<Item = Sheet> {
+    (1..=3).flat_map(|marks| every(marks, &[Standing::Out, Standing::In, Standing::Either])).chain(every(4, &[Standing::Out, Standing::In]))
 }
 
 fn exchange(child: &mut Child, batch: &[Call]) -> std::io::Result<Vec<u8>> {
@@ -755,13 +855,13 @@ fn main() {
         let sheet = tests.sheet();
         tests.pool.push(sheet);
     }
-    let mut counts = [[0u64; 11]; NAMES.len()];
+    let mut counts = [[0u64; 13]; NAMES.len()];
     let (mut forms, mut faults) = ([0u64; 3], [0u64; 5]);
     let mut made = 0;
-    let (mut sheets, classes) = (every_class(), every_class().count() as u64);
-    while made < 5 * classes + calls {
+    let (mut sheets, all) = (every_sheet(), every_sheet().count() as u64);
+    while made < 5 * all + calls {
         let mut batch: Vec<Call> = Vec::new();
-        while batch.len() < 512 && batch.iter().map(Call::size).sum::<usize>() < MOST_BYTES && made + (batch.len() as u64) < 5 * classes + calls {
+        while batch.len() < 512 && batch.iter().map(Call::size).sum::<usize>() < MOST_BYTES && made + (batch.len() as u64) < 5 * all + calls {
             match sheets.next() {
                 Some(sheet) => {
                     batch.push(tests.list_of(&sheet));
@@ -796,11 +896,11 @@ fn main() {
         stop("the program ended badly");
     }
     for (name, answers) in NAMES.iter().zip(&counts) {
-        let given: Vec<String> = (0..11).filter(|&a| answers[a] > 0).map(|a| format!("{a}: {}", answers[a])).collect();
+        let given: Vec<String> = (0..answers.len()).filter(|&a| answers[a] > 0).map(|a| format!("{a}: {}", answers[a])).collect();
         println!("vault_{name:<11}{:>7} calls, by answer {}", answers.iter().sum::<u64>(), given.join(", "));
     }
     println!("running times that were read: {} in minutes, {} in hours", forms[MINUTES as usize], forms[HOURS as usize]);
     let [fit, no_box, overlap, leaves, uncovered] = [FITS, NO_BOX, OVERLAP, LEAVES, UNCOVERED].map(|f| faults[f as usize]);
     println!("lists that were checked: {fit} fit, {no_box} have no box, {overlap} overlap, {leaves} leave the class, {uncovered} do not cover it");
-    println!("differential: all {classes} classes of up to four marks, and {calls} random calls compared, no difference (seed {seed})");
+    println!("differential: all {all} sheets of up to three marks, and of four without either combinations, and {calls} random calls compared, no difference (seed {seed})");
 }

@@ -91,7 +91,7 @@ static uint8_t *call(uint8_t *to, struct area *s, struct area *t)
     struct vault_verdict verdict = {99, 99, 0, 0};
     int entry = (int)number(1);
     uint64_t x = number(8), y = number(8);
-    int areas = entry == 0 || (entry > 6 && entry < 11) || entry == 12 ? 1 : 2;
+    int areas = entry == 0 || (entry > 6 && entry < 11) || entry == 12 || entry == 17 ? 1 : 2;
     lend(s, entry == 0);
     if (areas == 2)
         lend(t, entry != 11 && entry != 15);
@@ -118,6 +118,9 @@ static uint8_t *call(uint8_t *to, struct area *s, struct area *t)
         verdict = vault_check_list(s->p, s->n, t->p, t->n);
         r = (struct vault_reply){verdict.answer, verdict.place, 0};
         break;
+    case 16: r = vault_make_either(s->p, s->n, x, t->p, t->n); break;
+    case 17: r = vault_either(s->p, s->n, x); break;
+    case 18: r = vault_from_form1(s->p, s->n, t->p, t->n); break;
     default: fail("no such entry");
     }
     to = put(put(put(to, r.answer, 8), r.place, 8), r.value, 8);

@@ -1,15 +1,23 @@
 //! The rules of the library written a second time, for the tests alone: plainly, and by other means than the library's wherever there are any.
-//! A sheet here is its class and what each combination holds; nothing is kept for a line, all of it is worked out when asked for.
+//! A sheet here is how each combination stands and what it holds; nothing is kept for a line, all of it is worked out when asked for.
 
 use std::collections::{HashMap, HashSet};
 
 pub const MOST_HELD: u64 = 4_000_000_000;
 pub const MOST_AMOUNT: u64 = 35_999;
 
+/// How a combination stands. Either is one that no can could have: lines may contain it or not.
+#[derive(Clone, Copy, PartialEq, Eq, Debug)]
+pub enum Standing {
+    In,
+    Out,
+    Either,
+}
+
 #[derive(Clone, PartialEq, Eq, Debug)]
 pub struct Sheet {
     pub marks: u32,
-    pub class: Vec<bool>,
+    pub standing: Vec<Standing>,
     pub held: Vec<u64>,
 }
 
@@ -74,11 +82,54 @@ impl Fields<'_> {
         Ok(n)
     }
 
-    fn combination(&mut self, most: u64, before: Option<u64>) -> Result<u64, Reply> {
+    /// A combination of the sheet above the one before in its section, which may not stand so by the sections before.
+    fn combination(&mut self, sheet: &Sheet, before: Option<u64>, barred: Standing) -> Result<usize, Reply> {
         let (c, from) = self.next(1)?;
-        Self::fault_if(c >= most || before.is_some_and(|b| c <= b), from)?;
-        Ok(c)
+        Self::fault_if(c >= sheet.size() || before.is_some_and(|b| c <= b), from)?;
+        Self::fault_if(sheet.standing[c as usize] == barred, from)?;
+        Ok(c as usize)
     }
+
+    /// A section of combinations that all stand so. None of them is in the class already.
+    fn standings(&mut self, sheet: &mut Sheet, standing: Standing) -> Result<(), Reply> {
+        let mut before = None;
+        for _ in 0..self.count(sheet.size())? {
+            let c = self.combination(sheet, before, Standing::In)?;
+            sheet.standing[c] = standing;
+            before = Some(c as u64);
+        }
+        Ok(())
+    }
+
+    /// The section of what is held. No either combination holds anything.
+    fn seconds(&mut self, sheet: &mut Sheet) -> Result<(), Reply> {
+        let (mut before, mut sum) = (None, 0);
+        for _ in 0..self.count(sheet.size())? {
+            let c = self.combination(sheet, before, Standing::Either)?;
+            let (seconds, from) = self.next(4)?;
+            sum += seconds;
+            Self::fault_if(seconds == 0 || sum > MOST_HELD, from)?;
+            sheet.held[c] = seconds;
+            before = Some(c as u64);
+        }
+        Ok(())
+    }
+}
+
+/// The bytes of a form, from what stands in its sections, whether that makes a sheet or not; 01's form has no section of either combinations.
+pub fn laid(marks: u32, class: &[u8], either: Option<&[u8]>, held: &[(u8, u64)]) -> Vec<u8> {
+    let count = |n: usize| (n as u16).to_le_bytes();
+    let mut form = vec![marks as u8];
+    for section in [Some(class), either].into_iter().flatten() {
+        form.extend(count(section.len()));
+        form.extend(section);
+    }
+    form.extend(count(held.len()));
+    for &(c, seconds) in held {
+        form.push(c);
+        form.extend((seconds as u32).to_le_bytes());
+    }
+    form
 }
 
 impl Sheet {
@@ -87,62 +138,71 @@ impl Sheet {
             return Err(refused(1));
         }
         let n = 1 << marks;
-        Ok(Sheet { marks: marks as u32, class: vec![false; n], held: vec![0; n] })
+        Ok(Sheet { marks: marks as u32, standing: vec![Standing::Out; n], held: vec![0; n] })
     }
 
     pub fn size(&self) -> u64 {
-        self.class.len() as u64
+        self.standing.len() as u64
     }
 
     pub fn read(bytes: &[u8]) -> Result<Sheet, Reply> {
+        Self::read_sections(bytes, &[Standing::In, Standing::Either])
+    }
+
+    /// What 01's form says, which knows no either combination.
+    pub fn read_form1(bytes: &[u8]) -> Result<Sheet, Reply> {
+        Self::read_sections(bytes, &[Standing::In])
+    }
+
+    fn read_sections(bytes: &[u8], standings: &[Standing]) -> Result<Sheet, Reply> {
         let mut fields = Fields { bytes, at: 0 };
         let (marks, _) = fields.next(1)?;
         let mut sheet = Sheet::open(marks)?;
-        let size = sheet.size();
-        let mut before = None;
-        for _ in 0..fields.count(size)? {
-            let c = fields.combination(size, before)?;
-            sheet.class[c as usize] = true;
-            before = Some(c);
+        for &standing in standings {
+            fields.standings(&mut sheet, standing)?;
         }
-        let (mut before, mut sum) = (None, 0);
-        for _ in 0..fields.count(size)? {
-            let c = fields.combination(size, before)?;
-            let (seconds, from) = fields.next(4)?;
-            sum += seconds;
-            Fields::fault_if(seconds == 0 || sum > MOST_HELD, from)?;
-            sheet.held[c as usize] = seconds;
-            before = Some(c);
-        }
+        fields.seconds(&mut sheet)?;
         Fields::fault_if(fields.at < bytes.len(), fields.at)?;
         Ok(sheet)
     }
 
-    pub fn form(&self) -> Vec<u8> {
-        let mut form = vec![self.marks as u8];
-        let class: Vec<u8> = (0u8..32).filter(|&c| self.class.get(c as usize) == Some(&true)).collect();
-        form.extend((class.len() as u16).to_le_bytes());
-        form.extend(class);
-        let held: Vec<(usize, u64)> = self.held.iter().copied().enumerate().filter(|&(_, s)| s > 0).collect();
-        form.extend((held.len() as u16).to_le_bytes());
-        for (c, seconds) in held {
-            form.push(c as u8);
-            form.extend((seconds as u32).to_le_bytes());
-        }
-        form
+    /// The combinations that stand so, rising.
+    pub fn standing_so(&self, standing: Standing) -> Vec<u8> {
+        (0u8..32).filter(|&c| self.standing.get(c as usize) == Some(&standing)).collect()
     }
 
-    pub fn change(&mut self, c: u64, into: bool) -> Result<(), Reply> {
-        let standing = self.class.get_mut(usize::try_from(c).unwrap()).ok_or(refused(2))?;
-        if *standing == into {
+    /// The combinations that hold something, rising, each with its seconds.
+    pub fn holding(&self) -> Vec<(u8, u64)> {
+        (0u8..).zip(self.held.iter().copied()).filter(|&(_, s)| s > 0).collect()
+    }
+
+    pub fn form(&self) -> Vec<u8> {
+        laid(self.marks, &self.standing_so(Standing::In), Some(&self.standing_so(Standing::Either)), &self.holding())
+    }
+
+    /// 01's form, in which what is either does not show.
+    pub fn form1(&self) -> Vec<u8> {
+        laid(self.marks, &self.standing_so(Standing::In), None, &self.holding())
+    }
+
+    pub fn change(&mut self, c: u64, to: Standing) -> Result<(), Reply> {
+        let at = usize::try_from(c).unwrap();
+        let standing = self.standing.get_mut(at).ok_or(refused(2))?;
+        if *standing == to {
             return Err(refused(3));
         }
-        *standing = into;
+        if to == Standing::Either && self.held[at] > 0 {
+            return Err(refused(12));
+        }
+        *standing = to;
         Ok(())
     }
 
     pub fn receive(&mut self, c: u64, seconds: u64) -> Result<(), Reply> {
         self.amount(c, seconds)?;
+        if self.standing[c as usize] == Standing::Either {
+            return Err(refused(12));
+        }
         if self.held.iter().sum::<u64>() + seconds > MOST_HELD {
             return Err(refused(8));
         }
@@ -168,11 +228,11 @@ impl Sheet {
     }
 
     pub fn class_size(&self) -> u64 {
-        self.class.iter().filter(|&&c| c).count() as u64
+        self.standing_so(Standing::In).len() as u64
     }
 
     pub fn total(&self) -> u64 {
-        self.class.iter().zip(&self.held).filter(|(&c, _)| c).map(|(_, s)| s).sum()
+        self.standing.iter().zip(&self.held).filter(|(&s, _)| s == Standing::In).map(|(_, s)| s).sum()
     }
 
     fn over_line(&self, line: u64, f: impl Fn(usize) -> u64) -> u64 {
@@ -183,17 +243,41 @@ impl Sheet {
     }
 
     pub fn outside(&self, line: u64) -> u64 {
-        self.over_line(line, |c| u64::from(!self.class[c]))
+        self.over_line(line, |c| u64::from(self.standing[c] == Standing::Out))
+    }
+
+    pub fn either(&self, line: u64) -> u64 {
+        self.over_line(line, |c| u64::from(self.standing[c] == Standing::Either))
     }
 
     pub fn held_in(&self, line: u64) -> u64 {
         self.over_line(line, |c| self.held[c])
     }
 
-    /// A list that someone else drew: it must contain the class, and may contain nothing else.
+    /// What the lines of a list must contain, and what they may.
+    fn need(&self) -> Vec<bool> {
+        self.standing.iter().map(|&s| s == Standing::In).collect()
+    }
+
+    fn room(&self) -> Vec<bool> {
+        self.standing.iter().map(|&s| s != Standing::Out).collect()
+    }
+
+    /// A list that someone else drew: it must contain the class, and may contain nothing that is out.
     pub fn check(&self, list: &[u8]) -> Reply {
-        let (fault, at) = fault(self.marks, list, &self.class, &self.class);
+        let (fault, at) = fault(self.marks, list, &self.need(), &self.room());
         Reply { fault, at, ..done(0) }
+    }
+
+    /// What is read back when these lines were written as a PLA text: all that they contain is in the class, and the rest is out.
+    pub fn covered_by(&self, list: &[u8]) -> Sheet {
+        let mut sheet = Sheet::open(u64::from(self.marks)).unwrap();
+        for (c, standing) in sheet.standing.iter_mut().enumerate() {
+            if list.iter().any(|&b| contains(self.marks, u64::from(b), c as u64)) {
+                *standing = Standing::In;
+            }
+        }
+        sheet
     }
 }
 
@@ -218,55 +302,118 @@ fn fault(marks: u32, list: &[u8], need: &[bool], room: &[bool]) -> (u64, u64) {
     sought.iter().find_map(|(fault, place)| Some((*fault, place()? as u64))).unwrap_or((FITS, 0))
 }
 
-/// The shortest lists, from the least number of lines of every class of four marks, worked out once. A list of a class of five marks has lines with
-/// mark 4 free, which contain some of what both halves have; what is left of either half has lines of its own. A class of fewer marks is one of
-/// five with the higher marks off, and its lines have the same numbers.
+/// The shortest lists, from the least number of lines of every sheet of four marks, worked out once: of each two sets of combinations, those that the
+/// lines must contain and those that they may. A list of five marks has lines with a certain mark free, which contain the same of both halves; what is left
+/// of either half has lines of its own. A sheet of fewer marks is one of five with the higher marks off, and its lines have the same numbers.
 pub struct Lists {
+    /// The lines of five marks, each with its combinations; the first 81 are those of four.
     lines: Vec<(u64, u32)>,
+    /// A set of 16 combinations, a bit for each, as a number with a digit of base three for each: 1 if it is in the set.
+    digits: Vec<u32>,
+    /// By the digits of both sets, added: 2 for what must be contained, 1 for what may, 0 for what may not.
     least: Vec<u8>,
+}
+
+/// What lines must contain and what they may, of the combinations with a mark off and of those with it on, each without that mark.
+struct Halves {
+    need: [u32; 2],
+    room: [u32; 2],
+}
+
+impl Halves {
+    fn new(mark: u32, need: u32, room: u32) -> Halves {
+        let half = |set: u32, on: u32| {
+            let with = |k: u32| (k >> mark << (mark + 1)) | (on << mark) | (k & ((1 << mark) - 1));
+            (0..16).map(|k| (set >> with(k) & 1) << k).sum()
+        };
+        Halves { need: [half(need, 0), half(need, 1)], room: [half(room, 0), half(room, 1)] }
+    }
+
+    /// What a line with the mark free may contain.
+    fn both(&self) -> u32 {
+        self.room[0] & self.room[1]
+    }
 }
 
 impl Lists {
     pub fn new() -> Lists {
         let lines: Vec<(u64, u32)> = (0..243).map(|b| (b, (0..32).filter(|&c| contains(5, b, c)).map(|c| 1 << c).sum())).collect();
-        let mut least = vec![0u8; 1 << 16];
-        for class in 1u32..1 << 16 {
-            let low = class & class.wrapping_neg();
-            let inside = lines.iter().take(81).filter(|&&(_, s)| s & low != 0 && s & !class == 0);
-            least[class as usize] = inside.map(|&(_, s)| 1 + least[(class & !s) as usize]).min().unwrap();
-        }
-        Lists { lines, least }
+        let digits = (0u32..1 << 16).map(|set| (0..16).map(|c| (set >> c & 1) * 3u32.pow(c)).sum()).collect();
+        let mut lists = Lists { lines, digits, least: Vec::new() };
+        lists.fill();
+        lists
     }
 
-    /// The least number of lines of a class of five marks.
-    fn least_lines(&self, class: u32) -> u8 {
-        let (off, on) = (class & 0xffff, class >> 16);
-        let both = off & on;
-        let mut part = both;
-        let mut best = u8::MAX;
-        loop {
-            let of = |s: u32| self.least[s as usize];
-            best = best.min(of(part) + of(off & !part) + of(on & !part));
-            if part == 0 {
-                return best;
+    /// From the lowest combination that must be contained: each line through it leaves sets with smaller digits.
+    fn fill(&mut self) {
+        let through: Vec<Vec<u32>> = (0..16).map(|c| self.lines.iter().take(81).map(|&(_, s)| s).filter(|s| s >> c & 1 == 1).collect()).collect();
+        let halves: Vec<(u32, u32)> = (0..3u32.pow(8))
+            .map(|x| {
+                let set = |least: u32| (0..8).map(|c| u32::from(x / 3u32.pow(c) % 3 >= least) << c).sum();
+                (set(2), set(1))
+            })
+            .collect();
+        self.least = Vec::with_capacity(3usize.pow(16));
+        for high in &halves {
+            for low in &halves {
+                let (need, room) = (high.0 << 8 | low.0, high.1 << 8 | low.1);
+                let index = self.least.len();
+                let left = |s: u32| index - (self.digits[s as usize] + self.digits[(s & need) as usize]) as usize;
+                let least = match need {
+                    0 => 0,
+                    _ => through[need.trailing_zeros() as usize].iter().filter(|&&s| s & !room == 0).map(|&s| 1 + self.least[left(s)]).min().unwrap(),
+                };
+                self.least.push(least);
             }
-            part = (part - 1) & both;
         }
     }
 
-    /// The first shortest list: at each place the smallest number that leaves a class with one line fewer.
+    fn least_of_four(&self, need: u32, room: u32) -> u8 {
+        self.least[(self.digits[need as usize] + self.digits[room as usize]) as usize]
+    }
+
+    /// No list has fewer lines: those in one half, with the mark free or not, are a list of it; and in the other half, what no line with the mark free may
+    /// contain takes lines that have it fixed.
+    fn no_fewer(&self, h: &Halves) -> u8 {
+        let alone = |k: usize| self.least_of_four(h.need[k] & !h.both(), h.room[k]);
+        let whole = |k: usize| self.least_of_four(h.need[k], h.room[k]);
+        (whole(0) + alone(1)).max(whole(1) + alone(0))
+    }
+
+    /// Whether there is a list of at most so many lines: the mark is taken that leaves the fewest choices of what lines with it free contain.
+    fn has_list(&self, need: u32, room: u32, most: u8) -> bool {
+        let halves: [Halves; 5] = [0, 1, 2, 3, 4].map(|mark| Halves::new(mark, need, room));
+        if halves.iter().any(|h| self.no_fewer(h) > most) {
+            return false;
+        }
+        let h = halves.iter().min_by_key(|h| h.both().count_ones()).unwrap();
+        let mut part = h.both();
+        loop {
+            let rest = |k: usize| self.least_of_four(h.need[k] & !part, h.room[k] & !part);
+            if self.least_of_four(part, part) + rest(0) + rest(1) <= most {
+                return true;
+            }
+            if part == 0 {
+                return false;
+            }
+            part = (part - 1) & h.both();
+        }
+    }
+
+    /// The first shortest list: at each place the smallest number that leaves a list with one line fewer.
     pub fn first_shortest(&self, sheet: &Sheet) -> Vec<u8> {
-        let mut class: u32 = sheet.class.iter().enumerate().filter(|(_, &c)| c).map(|(i, _)| 1 << i).sum();
-        let mut left = self.least_lines(class);
+        let set = |has: Vec<bool>| has.iter().enumerate().map(|(c, &has)| u32::from(has) << c).sum::<u32>();
+        let (mut need, mut room) = (set(sheet.need()), set(sheet.room()));
+        let mut left = (0..).find(|&n| self.has_list(need, room, n)).unwrap();
         let mut list = Vec::new();
-        while class != 0 {
-            let low = class & class.wrapping_neg();
-            let inside = |s: u32| s & low != 0 && s & !class == 0;
-            let next = self.lines.iter().find(|&&(_, s)| inside(s) && self.least_lines(class & !s) + 1 == left);
-            let &(b, s) = next.expect("some line leaves one fewer");
-            list.push(b as u8);
-            class &= !s;
+        while need != 0 {
+            let low = need & need.wrapping_neg();
             left -= 1;
+            let leaves = |s: u32| s & low != 0 && s & !room == 0 && self.has_list(need & !s, room & !s, left);
+            let &(b, s) = self.lines.iter().find(|&&(_, s)| leaves(s)).expect("some line leaves one fewer");
+            list.push(b as u8);
+            need &= !s;
+            room &= !s;
         }
         list
     }
@@ -393,9 +540,11 @@ impl<'a> Pla<'a> {
     fn drawn(marks: usize, cubes: &[&[u8]]) -> Sheet {
         let cubes: HashSet<&[u8]> = cubes.iter().copied().collect();
         let mut sheet = Sheet::open(marks as u64).unwrap();
-        for (c, standing) in sheet.class.iter_mut().enumerate() {
+        for (c, standing) in sheet.standing.iter_mut().enumerate() {
             let own = format!("{c:0marks$b}").into_bytes();
-            *standing = cubes.iter().any(|cube| cube.iter().zip(&own).all(|(&x, &y)| x == b'-' || x == y));
+            if cubes.iter().any(|cube| cube.iter().zip(&own).all(|(&x, &y)| x == b'-' || x == y)) {
+                *standing = Standing::In;
+            }
         }
         sheet
     }

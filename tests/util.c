@@ -31,12 +31,13 @@ static int alike(struct vault_verdict a, struct vault_verdict b)
 
 static void answers(void)
 {
-    const char *none = vault_answer_text(11);
-    for (uint64_t a = 0; a <= 10; a++) {
-        check(strcmp(vault_answer_text(a), none) != 0, "an answer without words", a);
+    const char *none = vault_answer_text(11); /* a number of the program months alone */
+    for (uint64_t a = 0; a <= VAULT_EITHER; a++) {
+        check((strcmp(vault_answer_text(a), none) == 0) == (a == 11), "an answer without words", a);
         for (uint64_t b = 0; b < a; b++)
             check(strcmp(vault_answer_text(a), vault_answer_text(b)) != 0, "two answers with the same words", a);
     }
+    check(strcmp(vault_answer_text(13), none) == 0, "an answer that is none yet", 13);
     check(strcmp(vault_answer_text(UINT64_MAX), none) == 0 && strcmp(vault_answer_text(UINT64_C(0x100000000)), none) == 0, "no answer", 0);
 }
 
@@ -174,7 +175,8 @@ static struct vault_reply changed(struct vault_sheet *s, int kind, uint64_t c, u
     case 0: return vault_sheet_enter(s, c);
     case 1: return vault_sheet_leave(s, c);
     case 2: return vault_sheet_receive(s, c, seconds);
-    default: return vault_sheet_withdraw(s, c, seconds);
+    case 3: return vault_sheet_withdraw(s, c, seconds);
+    default: return vault_sheet_make_either(s, c);
     }
 }
 
@@ -184,7 +186,8 @@ static struct vault_reply called(const uint8_t *sheet, size_t size, int kind, ui
     case 0: return vault_enter(sheet, size, c, out, VAULT_FORM_SIZE);
     case 1: return vault_leave(sheet, size, c, out, VAULT_FORM_SIZE);
     case 2: return vault_receive(sheet, size, c, seconds, out, VAULT_FORM_SIZE);
-    default: return vault_withdraw(sheet, size, c, seconds, out, VAULT_FORM_SIZE);
+    case 3: return vault_withdraw(sheet, size, c, seconds, out, VAULT_FORM_SIZE);
+    default: return vault_make_either(sheet, size, c, out, VAULT_FORM_SIZE);
     }
 }
 
@@ -207,6 +210,7 @@ static void tells(const struct vault_sheet *s, const uint8_t *bytes, size_t size
     check(same(vault_sheet_class_size(s), vault_class_size(bytes, size)), "the class size", line);
     check(same(vault_sheet_total(s), vault_total(bytes, size)), "the total", line);
     check(same(vault_sheet_outside(s, line), vault_outside(bytes, size, line)), "what is outside", line);
+    check(same(vault_sheet_either(s, line), vault_either(bytes, size, line)), "what is either", line);
     check(same(vault_sheet_held(s, line), vault_held(bytes, size, line)), "what is held", line);
 }
 
@@ -221,7 +225,7 @@ static void changes(uint64_t marks)
     check(vault_sheet_open(&s, marks).answer == VAULT_DONE && holds(&s, bytes, size), "an opened sheet", marks);
     for (uint64_t i = 0; i < 1000; i++) {
         random = random * 1103515245u + 12345u;
-        int kind = (int)(random >> 16) % 4;
+        int kind = (int)(random >> 16) % 5;
         uint64_t c = (random >> 18) % (VAULT_COMBINATIONS(marks) + 1), seconds = (random >> 20) % 3 == 0 ? 0 : (random >> 8) % 300;
         struct vault_reply r = called(bytes, size, kind, c, seconds, out);
         if (r.answer == VAULT_DONE) {
@@ -236,6 +240,26 @@ static void changes(uint64_t marks)
     }
     memset(&copy, 0x55, sizeof copy);
     check(vault_sheet_read(&copy, bytes, size).answer == VAULT_DONE && holds(&copy, bytes, size), "a sheet that is read", marks);
+}
+
+/* The sheet of an old form is the one that is read to an area, and is a sheet as any other. */
+static void from_form1(void)
+{
+    static const uint8_t old[] = {2, 1, 0, 1, 1, 0, 0, 0xf0, 0, 0, 0}; /* 01 in, 240 seconds under 00 */
+    struct vault_sheet s;
+    uint8_t bytes[VAULT_FORM_SIZE], list[VAULT_LIST_SIZE];
+    struct vault_reply r = vault_from_form1(old, sizeof old, bytes, sizeof bytes);
+    memset(&s, 0x55, sizeof s);
+    check(same(vault_sheet_from_form1(&s, old, sizeof old), r) && holds(&s, bytes, (size_t)r.value), "a sheet of an old form", 2);
+    check(vault_sheet_marks(&s) == 2 && vault_sheet_held(&s, 8).value == 240 && vault_sheet_either(&s, 8).value == 0, "what it has", 2);
+    check(vault_sheet_make_either(&s, 0).answer == VAULT_EITHER, "what holds seconds is not made either", 0);
+    check(vault_sheet_enter(&s, 2).answer == VAULT_DONE && vault_sheet_list(&s, list).value == 2, "01 and 10", 2);
+    check(vault_sheet_withdraw(&s, 0, 240).answer == VAULT_DONE && vault_sheet_make_either(&s, 0).answer == VAULT_DONE, "00 either", 2);
+    check(vault_sheet_make_either(&s, 3).answer == VAULT_DONE && vault_sheet_either(&s, 8).value == 2, "11 either", 2);
+    check(vault_sheet_list(&s, list).value == 1 && list[0] == 8, "one line", 8);
+    r = vault_sheet_from_form1(&s, old, sizeof old - 1);
+    check(r.answer == VAULT_UNREADABLE && r.place == sizeof old - 1, "an old form that ends early", r.place);
+    check(vault_sheet_size(&s) == 0 && vault_sheet_make_either(&s, 0).answer == VAULT_UNREADABLE, "leaves no sheet", 2);
 }
 
 /* A sheet that begins with a PLA text is the one that is read to an area; its own text gives its class, and nothing held. */
@@ -283,6 +307,7 @@ int main(void)
     times();
     for (uint64_t marks = 1; marks <= VAULT_MOST_MARKS; marks++)
         changes(marks);
+    from_form1();
     drawn();
     no_sheets();
     printf("util: %d checks, %d failed\n", checks, faults);
