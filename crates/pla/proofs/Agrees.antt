@@ -4,7 +4,7 @@ use mathlib.Core.Path.{sym, subst}
 use mathlib.Core.List.{List, _++_}
 use lib.ListN.{length, drop}
 use Rattle.lists.specs.Lists.{FirstShortest}
-use Rattle.sheet.specs.Record.{Record}
+use Rattle.sheet.specs.Record.{Record, inClass, notOut}
 use Rattle.sheet.specs.Sound.{recordOf}
 use Rattle.sheet.specs.Promises.{Agree}
 use Rattle.sheet.specs.declared.Sheet.{Sheet}
@@ -14,9 +14,9 @@ use Rattle.pla.specs.Writing.{plaText}
 use Rattle.pla.specs.Answers.{WritesPla, spoiled, short, written}
 
 -- the list is that of the record
-same-list : {s u : Sheet} → Agree s u → {l : List ℕ} → FirstShortest (s .marks) (recordOf s .class) (recordOf s .class) l
-    → FirstShortest (u .marks) (recordOf u .class) (recordOf u .class) l
-same-list a {l} f = subst (λ (x : Record). FirstShortest (x .marks) (x .class) (x .class) l) (record-same a) f
+same-list : {s u : Sheet} → Agree s u → {l : List ℕ} → FirstShortest (s .marks) (inClass (recordOf s)) (notOut (recordOf s)) l
+    → FirstShortest (u .marks) (inClass (recordOf u)) (notOut (recordOf u)) l
+same-list a {l} f = subst (λ (x : Record). FirstShortest (x .marks) (inClass x) (notOut x) l) (record-same a) f
 
 pub writes-pla-alike : {most : ℕ} {s u : Sheet} {out later : List ℕ} {v : Value} → Agree s u → WritesPla most s out v later → WritesPla most u out v later
 writes-pla-alike a (spoiled n) = spoiled (λ r. n (class-ready-same (agree-back a) r))

@@ -1,6 +1,6 @@
 -- Reading what was written: the lines of the text one by one. No byte of a word is below 45, where newline, tab, space and `#` are.
 use Prim.Native.Nat.{ℕ, zero, suc, _+_, _≤_, _<_}
-use mathlib.Core.Path.{_≡_, refl, sym, ap, subst, fun-ext, _∙_}
+use mathlib.Core.Path.{_≡_, refl, sym, ap, subst, _∙_}
 use mathlib.Core.Bool.{Bool, true, false}
 use mathlib.Core.List.{List, [], _∷_, _++_, append-assoc, append-nil}
 use native.Mathlib.Omega.{arith}
@@ -8,17 +8,17 @@ use lib.Dec.{eqb}
 use lib.ListN.{length, getD}
 use borrow.Author.Tests.{eq-eqb, ne-eqb, lt-ltb}
 use Rattle.ground.specs.Texts.{ascii}
-use Rattle.ground.proofs.Cases.{if, clash, digit}
+use Rattle.ground.proofs.Cases.{digit}
 use Rattle.print.specs.Texts.{decimal, sign, pattern}
 use Rattle.print.proofs.Digits.{pattern-length, pattern-sign}
 use Rattle.clock.proofs.ReadsBack.{decimal-numeral, decimal-digit}
-use Rattle.lists.specs.Lists.{Boxes, covered, Fits}
+use Rattle.lists.specs.Lists.{Boxes, covered}
 use Rattle.sheet.specs.Limits.{marksOk}
 use Rattle.sheet.proofs.Tests.{some-marks}
 use Rattle.stored.specs.Fields.{Outcome, good}
 use Rattle.pla.specs.Texts.{betweenFrom, isNewline, linesOf, beforeComment, isGap, filled, wordsOf}
 use Rattle.pla.specs.Sayings.{Saying, inputs, output, count, cube, Says, dot-i, dot-o, dot-p, drawn, dot-e}
-use Rattle.pla.specs.Reading.{Count, uncounted, counted, Said, nothingSaid, comesTo, on, judge, Run, stopped, taken, PlaSays}
+use Rattle.pla.specs.Reading.{Count, uncounted, counted, Said, nothingSaid, classAlone, comesTo, on, judge, Run, stopped, taken, PlaSays}
 use Rattle.pla.specs.Writing.{cubeLines, plaText}
 
 -- no byte of the text passes the test
@@ -158,23 +158,16 @@ text-lines m k c =
     ∙ append-assoc ((ascii ".i " ++ decimal m) ++ ascii "\n.o 1\n.p ") (decimal k) (10 ∷ (c ++ ascii ".e\n"))
     ∙ append-assoc (ascii ".i " ++ decimal m) (ascii "\n.o 1\n.p ") (decimal k ++ 10 ∷ (c ++ ascii ".e\n"))
 
-covers-class : {m : ℕ} {class : ℕ → Bool} {l : List ℕ} → Fits m class class l → covered m l ≡ class
-covers-class {m} {class} {l} f = fun-ext (λ c. if (class c)
-    (λ e. f .covers c e ∙ sym e)
-    (λ e. if (covered m l c) (λ w. clash (f .inside c w) e) (λ w. w ∙ sym e)))
-
-module _ (most size m : ℕ) (ok : marksOk most m ≡ true) (class : ℕ → Bool) (l : List ℕ) (f : Fits m class class l) where
+module _ (most size m : ℕ) (ok : marksOk most m ≡ true) (l : List ℕ) (boxes : Boxes m l) where
   some : 0 < m
   some = some-marks most m ok
 
-  counted-right : (at : ℕ) → comesTo size (record { inputs = m; output = true; count = counted (length l) at; cubes = l }) ≡ good (record { marks = m; class = class; times = λ c. 0 })
-  counted-right at =
-      rw (lt-ltb 0 m some, eq-eqb (length l) (length l) refl)
-      (ap (λ (x : ℕ → Bool). good (record { marks = m; class = x; times = λ c. 0 })) (covers-class f))
+  counted-right : (at : ℕ) → comesTo size (record { inputs = m; output = true; count = counted (length l) at; cubes = l }) ≡ good (classAlone m (covered m l))
+  counted-right at = rw (lt-ltb 0 m some, eq-eqb (length l) (length l) refl)
 
   back-run : Run most size nothingSaid 0
       (linesOf ((ascii ".i" ++ 32 ∷ decimal m) ++ 10 ∷ ((ascii ".o" ++ 32 ∷ ascii "1") ++ 10 ∷ ((ascii ".p" ++ 32 ∷ decimal (length l)) ++ 10 ∷ (cubeLines m l ++ ascii ".e\n")))))
-      (good (record { marks = m; class = class; times = λ c. 0 }))
+      (good (classAlone m (covered m l)))
   back-run =
       run-line (ascii ".i" ++ 32 ∷ decimal m) _ (inputs m) (record { inputs = m; output = false; count = uncounted; cubes = [] })
       (none-line (ascii ".i") (decimal m) (high-key 105 (omega arith)) (high-decimal m)) (dot-i (key-words 105 m (omega arith))) (rw ok)
@@ -183,12 +176,12 @@ module _ (most size m : ℕ) (ok : marksOk most m ≡ true) (class : ℕ → Boo
       (dot-o (two (ascii ".o") (ascii "1") (omega arith) (omega arith) (high-key 111 (omega arith)) high-one)) (rw (lt-ltb 0 m some))
       (run-line (ascii ".p" ++ 32 ∷ decimal (length l)) _ (count (length l)) _
       (none-line (ascii ".p") (decimal (length l)) (high-key 112 (omega arith)) (high-decimal (length l))) (dot-p (key-words 112 (length l) (omega arith))) refl
-      (subst (Run most size _ _ (linesOf (cubeLines m l ++ ascii ".e\n"))) (counted-right _) (cubes-read m _ [] l some (f .boxes)))))
+      (subst (Run most size _ _ (linesOf (cubeLines m l ++ ascii ".e\n"))) (counted-right _) (cubes-read m _ [] l some boxes))))
 
-pub pla-back : (most m : ℕ) → marksOk most m ≡ true → (class : ℕ → Bool) (l : List ℕ) → Fits m class class l
-    → PlaSays most (plaText m l) (good (record { marks = m; class = class; times = λ c. 0 }))
+-- THE TEXT OF A LIST IS READ AS WHAT ITS BOXES COVER
+pub pla-back : (most m : ℕ) → marksOk most m ≡ true → (l : List ℕ) → Boxes m l → PlaSays most (plaText m l) (good (classAlone m (covered m l)))
 unfolding plaText
-pla-back most m ok class l f = record {
-  run = subst (λ (t : List ℕ). Run most (length (plaText m l)) nothingSaid 0 (linesOf t) (good (record { marks = m; class = class; times = λ c. 0 })))
-      (sym (text-lines m (length l) (cubeLines m l))) (back-run most (length (plaText m l)) m ok class l f);
+pla-back most m ok l boxes = record {
+  run = subst (λ (t : List ℕ). Run most (length (plaText m l)) nothingSaid 0 (linesOf t) (good (classAlone m (covered m l))))
+      (sym (text-lines m (length l) (cubeLines m l))) (back-run most (length (plaText m l)) m ok l boxes);
 }

@@ -16,7 +16,8 @@ use Rattle.boxes.proofs.Boxes.{contains-combination}
 use Rattle.lists.specs.Lists.{covered}
 use Rattle.lists.proofs.Count.{covered-last}
 use Rattle.sheet.specs.Limits.{marksOk}
-use Rattle.sheet.specs.Record.{Record}
+use Rattle.sheet.specs.Record.{isIn, isOut, isEither, Record, inClass, NoneEither}
+use Rattle.sheet.specs.declared.Standing.the-variants.{In, Out}
 use Rattle.stored.specs.Fields.{Outcome, good, refused}
 use Rattle.pla.specs.Texts.{wordsOf, linesOf}
 use Rattle.pla.specs.Sayings.{Saying, blank, inputs, output, count, cube, end, Says, no-word, dot-i, dot-o, dot-p, drawn, dot-e}
@@ -295,18 +296,39 @@ drawn-marks {most} {t} {r} p = let d = text-draws p in ap (λ (x : Record). mark
 pub drawn-times : {most : ℕ} {t : List ℕ} {r : Record} → PlaSays most t (good r) → (c : ℕ) → r .times c ≡ 0
 drawn-times p c = ap (λ (x : Record). x .times c) (text-draws p .is)
 
+-- what is in the class of a record that has no either combinations
+in-alone : (e : Bool) → isIn (cond e In Out) ≡ e
+in-alone true = refl
+in-alone false = refl
+
+either-alone : (e : Bool) → isEither (cond e In Out) ≡ false
+either-alone true = refl
+either-alone false = refl
+
+not-out-alone : (e : Bool) → isOut (cond e In Out) ≡ false → e ≡ true
+not-out-alone true w = refl
+not-out-alone false w = clash refl w
+
 -- THE CLASS IS THE UNION OF THE CUBES
-pub drawn-class : {most : ℕ} {t : List ℕ} {r : Record} → PlaSays most t (good r) → (c : ℕ) → Decides (r .class c) (Drawn (r .marks) c (linesOf t))
+pub drawn-class : {most : ℕ} {t : List ℕ} {r : Record} → PlaSays most t (good r) → (c : ℕ) → Decides (inClass r c) (Drawn (r .marks) c (linesOf t))
 unfolding covered
 drawn-class {most} {t} {r} p c =
     let d = text-draws p in
-    subst (λ (x : Record). Decides (x .class c) (Drawn (x .marks) c (linesOf t))) (sym (d .is))
-    (record { yes = λ e. ⊎-elim (λ w. clash w refl) (λ w. w) (d .only-these c e); sure = d .lines c })
+    subst (λ (x : Record). Decides (inClass x c) (Drawn (x .marks) c (linesOf t))) (sym (d .is))
+    (subst (λ (e : Bool). Decides e (Drawn _ c (linesOf t))) (sym (in-alone _))
+    (record { yes = λ e. ⊎-elim (λ w. clash w refl) (λ w. w) (d .only-these c e); sure = d .lines c }))
+
+-- and what is not in it is out
+pub drawn-plain : {most : ℕ} {t : List ℕ} {r : Record} → PlaSays most t (good r) → NoneEither r
+drawn-plain p c = ap (λ (x : Record). isEither (x .standing c)) (text-draws p .is) ∙ either-alone _
 
 -- so it has combinations alone
 drawn-below : {m c : ℕ} {ls : List (List ℕ)} → Drawn m c ls → c < 2 ^ m
 drawn-below {m} {c} (here {b = b} y e) = contains-combination m b c e
 drawn-below (later h d) = drawn-below d
 
-pub drawn-combination : {most : ℕ} {t : List ℕ} {r : Record} → PlaSays most t (good r) → (c : ℕ) → r .class c ≡ true → c < 2 ^ r .marks
-drawn-combination p c e = drawn-below (drawn-class p c .yes e)
+pub drawn-combination : {most : ℕ} {t : List ℕ} {r : Record} → PlaSays most t (good r) → (c : ℕ) → isOut (r .standing c) ≡ false → c < 2 ^ r .marks
+drawn-combination {r = r} p c e =
+    let d = text-draws p in
+    let w = not-out-alone _ (sym (ap (λ (x : Record). isOut (x .standing c)) (d .is)) ∙ e) in
+    drawn-below (drawn-class p c .yes (ap (λ (x : Record). inClass x c) (d .is) ∙ in-alone _ ∙ w))

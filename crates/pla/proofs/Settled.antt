@@ -6,6 +6,7 @@ use native.Mathlib.Omega.{arith}
 use lib.ListN.{length, drop}
 use Rattle.lists.specs.Lists.{FirstShortest}
 use Rattle.lists.proofs.First.{unique}
+use Rattle.sheet.specs.Record.{inClass, notOut}
 use Rattle.sheet.specs.Sound.{recordOf}
 use Rattle.sheet.specs.declared.Sheet.{Sheet}
 use Rattle.sheet.specs.declared.Value.{Value}
@@ -23,8 +24,8 @@ pub reads-pla-some : (most n : ℕ) (t : List ℕ) → (a : Read) × ReadsPla mo
 reads-pla-some most n t = let o = says-some-outcome most t in (readOf n (o .0), record { outcome = o .0; run = o .1; is = refl })
 
 -- the text of a sheet's class is one
-one-text : (s : Sheet) {l k : List ℕ} → FirstShortest (s .marks) (recordOf s .class) (recordOf s .class) l
-    → FirstShortest (s .marks) (recordOf s .class) (recordOf s .class) k → plaText (s .marks) l ≡ plaText (s .marks) k
+one-text : (s : Sheet) {l k : List ℕ} → FirstShortest (s .marks) (inClass (recordOf s)) (notOut (recordOf s)) l
+    → FirstShortest (s .marks) (inClass (recordOf s)) (notOut (recordOf s)) k → plaText (s .marks) l ≡ plaText (s .marks) k
 one-text s p q = ap (plaText (s .marks)) (unique p q)
 
 pub writes-pla-settled : {most : ℕ} {s : Sheet} {out later later′ : List ℕ} {v w : Value} → WritesPla most s out v later → WritesPla most s out w later′

@@ -15,7 +15,7 @@ use Rattle.pla.proofs.Drawings.{drawn-marks, drawn-times}
 
 pub drawn-storable : {most : ℕ} {t : List ℕ} {r : Record} → PlaSays most t (good r) → Storable most r
 drawn-storable {r = r} p =
-    record { marks = drawn-marks p; most-held = omega (arith, sum-ext (2 ^ r .marks) (r .times) (λ c. 0) (λ c l. drawn-times p c), sum-zero (2 ^ r .marks)) }
+    record { marks = drawn-marks p; most-held = omega (arith, sum-ext (2 ^ r .marks) (r .times) (λ c. 0) (λ c l. drawn-times p c), sum-zero (2 ^ r .marks)); apart = λ c e. drawn-times p c }
 
 pub reads-pla-sound : (most n : ℕ) → 3 ^ most ≤ n → 1 ≤ most → {t : List ℕ} {a : Read} → ReadsPla most n t a → Ready most (a .sheet)
 reads-pla-sound most n long h x = read-by-sound most n long h (λ r. drawn-storable) x

@@ -3,6 +3,7 @@ use Prim.Native.Nat.{ℕ, _≤_, _<_}
 use mathlib.Core.List.{List, _++_}
 use lib.ListN.{length, drop}
 use Rattle.lists.specs.Lists.{FirstShortest}
+use Rattle.sheet.specs.Record.{inClass, notOut}
 use Rattle.sheet.specs.Sound.{ClassReady, recordOf}
 use Rattle.sheet.specs.declared.Sheet.{Sheet}
 use Rattle.sheet.specs.declared.Value.{Value}
@@ -19,8 +20,8 @@ ReadsPla most n t answer = ReadBy (PlaSays most t) n answer
 -- in front, and the bytes behind it stay. A refused call leaves every byte.
 pub data WritesPla (most : ℕ) (s : Sheet) (out : List ℕ) : Value → List ℕ → Type 0 where
   spoiled : (ClassReady most s → ⊥) → WritesPla most s out (record { number = 7; value = 0 }) out
-  short : {l : List ℕ} → ClassReady most s → FirstShortest (s .marks) (recordOf s .class) (recordOf s .class) l → length out < length (plaText (s .marks) l)
+  short : {l : List ℕ} → ClassReady most s → FirstShortest (s .marks) (inClass (recordOf s)) (notOut (recordOf s)) l → length out < length (plaText (s .marks) l)
       → WritesPla most s out (record { number = 5; value = 0 }) out
-  written : {l : List ℕ} → ClassReady most s → FirstShortest (s .marks) (recordOf s .class) (recordOf s .class) l
+  written : {l : List ℕ} → ClassReady most s → FirstShortest (s .marks) (inClass (recordOf s)) (notOut (recordOf s)) l
       → length (plaText (s .marks) l) ≤ length out
       → WritesPla most s out (record { number = 0; value = length (plaText (s .marks) l) }) (plaText (s .marks) l ++ drop (length (plaText (s .marks) l)) out)

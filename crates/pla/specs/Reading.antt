@@ -8,7 +8,8 @@ use lib.ListN.{length}
 use Rattle.boxes.specs.Boxes.{contains}
 use Rattle.lists.specs.Lists.{covered}
 use Rattle.sheet.specs.Limits.{marksOk}
-use Rattle.sheet.specs.Record.{Record, withClass, opened}
+use Rattle.sheet.specs.Record.{Record, opened, withStanding}
+use Rattle.sheet.specs.declared.Standing.the-variants.{In, Out}
 use Rattle.stored.specs.Fields.{Outcome, good, refused}
 use Rattle.pla.specs.Texts.{linesOf, wordsOf}
 use Rattle.pla.specs.Sayings.{Saying, blank, inputs, output, count, cube, end, Says}
@@ -32,9 +33,13 @@ pub record Said : Type 0 where
 abbrev pub nothingSaid : Said
 nothingSaid = record { inputs = 0; output = false; count = uncounted; cubes = [] }
 
+-- the record of a class of m marks that holds nothing: what is not in it is out
+abbrev pub classAlone : ℕ → (ℕ → Bool) → Record
+classAlone m class = withStanding (λ c. cond (class c) In Out) (opened m)
+
 -- the record that is drawn: the class is the union of the cubes, and nothing is held
 abbrev pub drawnBy : Said → Record
-drawnBy s = withClass (covered (s .inputs) (s .cubes)) (opened (s .inputs))
+drawnBy s = classAlone (s .inputs) (covered (s .inputs) (s .cubes))
 
 -- the number of cubes is k; a `.p` line says so, or there is none
 abbrev pub agreed : Record → ℕ → Count → Outcome

@@ -1,7 +1,7 @@
 -- The end of the input: which answer what is kept comes to, and the sheet of the set of combinations that the cubes have.
 use Prim.Native.Nat.{ℕ, _+_, _^_, _≤_, _<_}
 use mathlib.Core.Path.{_≡_, refl, sym, ap, subst, _∙_}
-use mathlib.Core.Bool.{Bool, true, false, not, _&&_, and-false}
+use mathlib.Core.Bool.{Bool, true, false, not, cond, _&&_, and-false}
 use mathlib.Core.List.{List}
 use native.Mathlib.Omega.{arith}
 use lib.Dec.{eqb, ltb}
@@ -13,7 +13,8 @@ use Rattle.tables.specs.Tables.{entry}
 use Rattle.lists.specs.Lists.{covered}
 use Rattle.sets.specs.Sets.{has, Outs}
 use Rattle.sheet.specs.Limits.{mostMarks, entries}
-use Rattle.sheet.specs.Record.{Record, outOf, sheetFrom, sheetOf}
+use Rattle.sheet.specs.Record.{outs, eithers, Record, outside-counts, either-counts, quantity, sheetFrom, sheetOf}
+use Rattle.sheet.specs.declared.Standing.the-variants.{In, Out}
 use Rattle.sheet.specs.Parts.{Addable}
 use Rattle.sheet.specs.declared.Sheet.{Sheet}
 use Rattle.sheet.proofs.Opening.{combinations-fit, same-entry, ones-addable, sheet-same}
@@ -87,12 +88,24 @@ outs-addable m class outs few is =
     ones-addable m outs few (omega (arith, combinations-fit m few, is .0))
     (λ c l. subst (λ (x : ℕ). x ≤ 1) (sym (is .1 c (omega (arith, combinations-fit m few, l)))) (outs-one (has class c)))
 
+-- what a combination adds that is in the class, or else out
+outs-alone : (b : Bool) → only (not b) 1 ≡ outs (cond b In Out)
+outs-alone true = refl
+outs-alone false = refl
+
+eithers-alone : (b : Bool) → eithers (cond b In Out) ≡ 0
+eithers-alone true = refl
+eithers-alone false = refl
+
 -- the sheet that is worked out from them
 pub drawn-sheet : (s : Saids) (k : Said) (outs : List ℕ) {sheet : Sheet} → Keeps s k → Outs (k .class) outs
-    → sheet ≡ sheetFrom entries (k .inputs) (entry outs) (entry (replicate 32 0)) → _≡_ {A = Sheet} sheet (sheetOf entries (drawnBy s))
+    → sheet ≡ sheetFrom entries (k .inputs) (entry outs) (entry (replicate 32 0)) (entry (replicate 32 0)) → _≡_ {A = Sheet} sheet (sheetOf entries (drawnBy s))
 drawn-sheet s k outs kept is e =
     let m = s .inputs in
-    e ∙ ap (λ (x : ℕ). sheetFrom entries x (entry outs) (entry (replicate 32 0))) (kept .inputs)
-    ∙ sheet-same entries m (entry outs) (outOf (covered m (s .cubes))) (entry (replicate 32 0)) (λ c. 0)
-    (λ c l. is .1 c (omega (arith, combinations-fit m (kept .most), l)) ∙ ap (λ (f : ℕ → Bool). only (not (f c)) 1) (kept .class))
-    (λ c l. same-entry m 0 c (kept .most) l)
+    let none = entry (replicate 32 0) in
+    let zero = λ c l. same-entry m 0 c (kept .most) l in
+    e ∙ ap (λ (x : ℕ). sheetFrom entries x (entry outs) none none) (kept .inputs)
+    ∙ sheet-same entries m (entry outs) (quantity outside-counts (drawnBy s)) none (quantity either-counts (drawnBy s)) none (λ c. 0)
+    (λ c l. is .1 c (omega (arith, combinations-fit m (kept .most), l)) ∙ ap (λ (f : ℕ → Bool). only (not (f c)) 1) (kept .class) ∙ outs-alone (covered m (s .cubes) c))
+    (λ c l. zero c l ∙ sym (eithers-alone (covered m (s .cubes) c)))
+    zero

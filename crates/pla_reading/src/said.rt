@@ -145,7 +145,7 @@ impl Said {
         Read {
             number: 0,
             place: 0,
-            sheet: Sheet::afresh(self.inputs, &outs, &none),
+            sheet: Sheet::afresh(self.inputs, &outs, &none, &none),
         }
     }
 }

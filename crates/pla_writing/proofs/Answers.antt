@@ -8,6 +8,7 @@ use lib.Seq.{length-take-le}
 use Rattle.ground.specs.Areas.{Wrote}
 use Rattle.ground.proofs.Areas.{laid-front}
 use Rattle.lists.specs.Lists.{FirstShortest}
+use Rattle.sheet.specs.Record.{inClass, notOut}
 use Rattle.sheet.specs.Limits.{mostMarks}
 use Rattle.sheet.specs.Sound.{ClassReady, recordOf}
 use Rattle.sheet.specs.declared.Sheet.{Sheet}
@@ -24,7 +25,7 @@ module _ {s : Sheet} {area later : List ℕ} {v : Value} (ready : ClassReady mos
   pub few-marks : s .marks ≤ mostMarks
   few-marks = marks-most mostMarks (s .marks) (ready .marks)
 
-  found : Finds (s .marks) (recordOf s .class) area v later
+  found : Finds (s .marks) (inClass (recordOf s)) (notOut (recordOf s)) area v later
   found = list-finds listed ready (omega (arith, combinations-fit (s .marks) few-marks))
 
   pub few-boxes : v .value ≤ 32
@@ -37,8 +38,8 @@ module _ {s : Sheet} {area later : List ℕ} {v : Value} (ready : ClassReady mos
   abbrev boxes : List ℕ
   boxes = take (v .value) later
 
-  right : FirstShortest (s .marks) (recordOf s .class) (recordOf s .class) boxes
-  right = subst (FirstShortest (s .marks) (recordOf s .class) (recordOf s .class)) (sym (front-is found)) (found .right)
+  right : FirstShortest (s .marks) (inClass (recordOf s)) (notOut (recordOf s)) boxes
+  right = subst (FirstShortest (s .marks) (inClass (recordOf s)) (notOut (recordOf s))) (sym (front-is found)) (found .right)
 
   module _ {n : ℕ} (size : TextSize (s .marks) (v .value) n) where
     pub text-size : length (plaText (s .marks) boxes) ≡ n

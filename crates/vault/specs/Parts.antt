@@ -2,14 +2,14 @@
 use Prim.Native.Nat.{ℕ}
 use mathlib.Core.List.{List}
 use Rattle.sheet.specs.Limits.{mostMarks}
-use Rattle.sheet.specs.Record.{outside-counts, held-seconds}
+use Rattle.sheet.specs.Record.{outside-counts, either-counts, held-seconds}
 use Rattle.sheet.specs.Calls.{ClassSize}
 use Rattle.sheet.specs.declared.Sheet.{Sheet}
 use Rattle.sheet.specs.declared.Value.{Value}
 use Rattle.listing.specs.Listing.{Listed, Totalled}
 use Rattle.pla.specs.Answers.{WritesPla}
 use Rattle.vault.specs.declared.Question.{Question}
-use Rattle.vault.specs.declared.Question.the-variants.{Size, Total, Outside, Held}
+use Rattle.vault.specs.declared.Question.the-variants.{Size, Total, Outside, Either, Held}
 use Rattle.vault.specs.declared.Wanted.{Wanted}
 use Rattle.vault.specs.declared.Wanted.the-variants.{Lines, Pla}
 use Rattle.vault.specs.Entries.{KeptAt}
@@ -19,6 +19,7 @@ abbrev pub AnswerTo : Question → Sheet → Value → Type 0
 AnswerTo Size = ClassSize mostMarks
 AnswerTo Total = Totalled mostMarks
 AnswerTo (Outside b) = KeptAt outside-counts b
+AnswerTo (Either b) = KeptAt either-counts b
 AnswerTo (Held b) = KeptAt held-seconds b
 
 -- what is put of it into an area

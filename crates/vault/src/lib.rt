@@ -2,10 +2,13 @@
 ghost use mathlib.Core.Path.{_≡_};
 ghost use Rattle.tables.specs.Tables.{entry};
 ghost use Rattle.sheet.specs.Limits.{mostMarks, entries};
-ghost use Rattle.sheet.specs.Record.{outside-counts, held-seconds};
+ghost use Rattle.sheet.specs.Record.{outside-counts, either-counts, held-seconds};
 ghost use Rattle.sheet.specs.Sound.{ClassReady, Ready};
 ghost use Rattle.sheet.specs.Calls.{openOf, didOf, ClassSize};
-ghost use Rattle.sheet.specs.declared.Call.the-variants.{Enter, Leave, Receive, Withdraw};
+ghost use Rattle.sheet.specs.declared.Call.the-variants.{Change, Receive, Withdraw};
+ghost use Rattle.sheet.specs.declared.Standing.the-variants.{In, Out, Either};
+ghost use Rattle.stored.specs.Answers.{ReadsBy};
+ghost use Rattle.stored.specs.declared.Layout.the-variants.{First};
 ghost use Rattle.listing.specs.Listing.{Listed, Totalled};
 ghost use Rattle.pla.specs.Answers.{ReadsPla, WritesPla};
 ghost use Rattle.times.specs.Answers.{Answered};
@@ -15,6 +18,7 @@ use checking::Verdict;
 use sheet::Answer;
 use sheet::Call;
 use sheet::Sheet;
+use sheet::Standing;
 use sheet::Value;
 use stored::Read;
 use times::Reading;
@@ -108,6 +112,7 @@ pub enum Question {
     Size,
     Total,
     Outside(u64),
+    Either(u64),
     Held(u64),
 }
 
@@ -123,11 +128,13 @@ fn answer(s: Sheet, q: Question) -> Value
     ensures { λ r. ⌜ AnswerTo q s r ⌝ }
 {
     let outside = s.outside;
+    let either = s.either;
     let held = s.held;
     match q {
         Question::Size => done(s.size_sound()),
         Question::Total => done(listing::total_sound(s)),
         Question::Outside(b) => kept(outside, b),
+        Question::Either(b) => kept(either, b),
         Question::Held(b) => kept(held, b),
     }
 }
@@ -184,17 +191,33 @@ pub extern "C" fn vault_open(marks: u64, out: &mut [u8]) -> Reply
 // Into the class.
 #[no_mangle]
 pub extern "C" fn vault_enter(sheet: &[u8], combination: u64, out: &mut [u8]) -> Reply
-    ensures { λ r. ⌜ Changes (λ s. didOf mostMarks s (Enter combination)) (now (sheet .entry)) (now (out .entry)) r (now (out .exit)) ⌝ }
+    ensures { λ r. ⌜ Changes (λ s. didOf mostMarks s (Change In combination)) (now (sheet .entry)) (now (out .entry)) r (now (out .exit)) ⌝ }
 {
-    change(sheet, Call::Enter(combination as usize), out)
+    change(sheet, Call::Change(Standing::In, combination as usize), out)
 }
 
 // Out of the class.
 #[no_mangle]
 pub extern "C" fn vault_leave(sheet: &[u8], combination: u64, out: &mut [u8]) -> Reply
-    ensures { λ r. ⌜ Changes (λ s. didOf mostMarks s (Leave combination)) (now (sheet .entry)) (now (out .entry)) r (now (out .exit)) ⌝ }
+    ensures { λ r. ⌜ Changes (λ s. didOf mostMarks s (Change Out combination)) (now (sheet .entry)) (now (out .entry)) r (now (out .exit)) ⌝ }
 {
-    change(sheet, Call::Leave(combination as usize), out)
+    change(
+        sheet,
+        Call::Change(Standing::Out, combination as usize),
+        out,
+    )
+}
+
+// Neither in the class nor out of it: no can could have the combination.
+#[no_mangle]
+pub extern "C" fn vault_make_either(sheet: &[u8], combination: u64, out: &mut [u8]) -> Reply
+    ensures { λ r. ⌜ Changes (λ s. didOf mostMarks s (Change Either combination)) (now (sheet .entry)) (now (out .entry)) r (now (out .exit)) ⌝ }
+{
+    change(
+        sheet,
+        Call::Change(Standing::Either, combination as usize),
+        out,
+    )
 }
 
 // A receipt.
@@ -229,6 +252,14 @@ pub extern "C" fn vault_copy(sheet: &[u8], out: &mut [u8]) -> Reply
     ensures { λ r. ⌜ Changes same (now (sheet .entry)) (now (out .entry)) r (now (out .exit)) ⌝ }
 {
     rewritten(reading::read(sheet), out)
+}
+
+// What was read of 01's form, written in today's.
+#[no_mangle]
+pub extern "C" fn vault_from_form1(old: &[u8], out: &mut [u8]) -> Reply
+    ensures { λ r. ⌜ ChangesBy (ReadsBy First mostMarks entries (now (old .entry))) same (now (out .entry)) r (now (out .exit)) ⌝ }
+{
+    rewritten(reading::read_first(old), out)
 }
 
 // What a PLA text draws, written in its stored form.
@@ -277,6 +308,14 @@ pub extern "C" fn vault_outside(sheet: &[u8], line: u64) -> Reply
     ensures { λ r. ⌜ Tells (KeptAt outside-counts line) (now (sheet .entry)) r ⌝ }
 {
     tell(sheet, Question::Outside(line))
+}
+
+// The either count of a line.
+#[no_mangle]
+pub extern "C" fn vault_either(sheet: &[u8], line: u64) -> Reply
+    ensures { λ r. ⌜ Tells (KeptAt either-counts line) (now (sheet .entry)) r ⌝ }
+{
+    tell(sheet, Question::Either(line))
 }
 
 // The held seconds of a line.

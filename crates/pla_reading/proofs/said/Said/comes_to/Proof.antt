@@ -34,7 +34,7 @@ afresh-requires : tie.Need-afresh-requires
 afresh-requires c κs =
     let e = c .before .before in
     let a = e .before .before .before .before .before .before .before in
-    (a .pre .0, outs-addable _ _ (e .outs-of .result) (a .pre .0) (e .outs-of .ensures), same-addable _ 0 (a .pre .0) (omega arith))
+    (a .pre .0, outs-addable _ _ (e .outs-of .result) (a .pre .0) (e .outs-of .ensures), same-addable _ 0 (a .pre .0) (omega arith), same-addable _ 0 (a .pre .0) (omega arith))
 
 returns-4 : tie.Need-returns-4
 returns-4 c s kept =
