@@ -10,6 +10,7 @@ use Rattle.lists.specs.Lists.{Boxes, covered, Fits}
 use Rattle.lists.proofs.Places.{boxes-at, boxes-all, covered-at, covered-by, apart-at, apart-all}
 use Rattle.checking.specs.declared.Fault.{Fault}
 use Rattle.checking.specs.declared.Fault.the-variants as fault
+use Rattle.checking.specs.declared.Finding.{Finding}
 use Rattle.checking.specs.declared.Finding.the-variants.{Fitting, Faulty}
 use Rattle.checking.specs.Faults.{NoBox, Overlaps, Leaves, Uncovered, Has, faultNumber, Judged}
 use Rattle.checking.specs.Parts.{FirstIn}
@@ -110,3 +111,8 @@ module _ (m : ℕ) (need room : ℕ → Bool) (l : List ℕ) where
 
   pub all-covered : Without 4 → ((c : ℕ) → Uncovered m need l c → ⊥) → Judged m need room l Fitting
   all-covered w n = Judged.fits (faultless-fits (λ f. without-more fault.Uncovered w n f (omega (arith, number-in f .1))))
+
+-- what is found for two sets is found for what they are known to be
+pub judged-told : {m : ℕ} {p q need room : ℕ → Bool} {l : List ℕ} {x : Finding} → p ≡ need → q ≡ room → Judged m p q l x → Judged m need room l x
+judged-told {m} {p} {q} {need} {room} {l} {x} e f j =
+    subst (λ (y : ℕ → Bool). Judged m need y l x) f (subst (λ (y : ℕ → Bool). Judged m y q l x) e j)

@@ -3,7 +3,7 @@ use Prim.Native.Nat.{ℕ, _^_, _<_, _≤_}
 use mathlib.Core.Path.{sym, subst}
 use mathlib.Core.List.{List}
 use lib.ListN.{length}
-use Rattle.sheet.specs.Record.{Record}
+use Rattle.sheet.specs.Record.{Record, inClass, notOut}
 use Rattle.sheet.specs.Promises.{Agree}
 use Rattle.sheet.specs.declared.Sheet.{Sheet}
 use Rattle.sheet.specs.declared.Value.{Value}
@@ -15,7 +15,7 @@ list-alike a (Listed.spoiled n) = Listed.spoiled (λ r. n (class-ready-same (agr
 list-alike {area = area} a (Listed.short r l) = Listed.short (class-ready-same a r) (subst (λ (m : ℕ). length area < 2 ^ m) (a .marks) l)
 list-alike {area = area} {later} {v} a (Listed.searched r l w) =
     Listed.searched (class-ready-same a r) (subst (λ (m : ℕ). 2 ^ m ≤ length area) (a .marks) l)
-    (subst (λ (x : Record). Searched (x .marks) (x .class) area v later) (record-same a) w)
+    (subst (λ (x : Record). Searched (x .marks) (inClass x) (notOut x) area v later) (record-same a) w)
 
 pub total-alike : {most : ℕ} {s u : Sheet} {v : Value} → Agree s u → Totalled most s v → Totalled most u v
 total-alike a (Totalled.spoiled n) = Totalled.spoiled (λ r. n (ready-same (agree-back a) r))

@@ -1,43 +1,50 @@
--- The class as bits, combination by combination: what stands after those below c. And what a combination adds to the total.
+-- The combinations of a test as bits, one by one: what stands after those below c. So the counts' zeros, and their `&`, are what a list may and must
+-- cover. And what a combination adds to the total.
 use Prim.Native.Nat.{ℕ, _+_, _*_, _^_, _<_, _≤_}
-use mathlib.Core.Path.{_≡_, sym, _∙_, ap, fun-ext}
+use mathlib.Core.Path.{_≡_, refl, sym, _∙_, ap, ap₂, fun-ext}
 use mathlib.Core.Bool.{Bool, true, false, _&&_}
 use mathlib.Core.List.{List}
 use native.Mathlib.Omega.{arith}
+use lib.Bits.{bitAnd, and-le-l}
 use lib.Dec.{eqb, ltb}
 use borrow.Author.Tests.{lt-ltb, le-ltb}
 use Rattle.ground.proofs.Cases.{below-or, same-or}
 use Rattle.boxes.proofs.Numbers.{power-next}
+use Rattle.boxes.specs.Boxes.{single}
 use Rattle.boxes.specs.Sums.{only}
 use Rattle.sets.specs.Sets.{has}
-use Rattle.sets.proofs.Bits.{has-zero, has-high, has-top, has-under}
-use Rattle.tables.specs.Tables.{own}
-use Rattle.sheet.specs.Sound.{classOf}
+use Rattle.sets.proofs.Bits.{has-and, has-zero, has-high, has-top, has-under}
+use Rattle.tables.specs.Tables.{entry, own}
+use Rattle.sheet.specs.Record.{inClass, sheetWith}
+use Rattle.sheet.specs.Sound.{recordOf}
+use Rattle.sheet.specs.declared.Sheet.{Sheet}
+use Rattle.sheet.proofs.Told.{told-in, told-not-out}
 use Rattle.listing.specs.Listing.{taken}
+use Rattle.listing.specs.Parts.{BitsOf}
 
 -- the combinations whose own count is 0
 abbrev pub inside : ℕ → List ℕ → ℕ → Bool
 inside m t c = eqb (own m t c) 0
 
--- u has the combinations of the class that are below c
-pub record Filled (class : ℕ → Bool) (c u : ℕ) : Type 0 where
+-- u has the combinations of the test that are below c
+pub record Filled (test : ℕ → Bool) (c u : ℕ) : Type 0 where
   pub small : u < 2 ^ c
-  pub bits : (k : ℕ) → has u k ≡ (ltb k c && class k)
+  pub bits : (k : ℕ) → has u k ≡ (ltb k c && test k)
 
-pub filled-none : (class : ℕ → Bool) → Filled class 0 0
-filled-none class = record {
+pub filled-none : (test : ℕ → Bool) → Filled test 0 0
+filled-none test = record {
   small = omega arith;
-  bits = λ k. has-zero k ∙ sym (ap (λ (t : Bool). t && class k) (le-ltb k 0 (omega arith)));
+  bits = λ k. has-zero k ∙ sym (ap (λ (t : Bool). t && test k) (le-ltb k 0 (omega arith)));
 }
 
-module _ {class : ℕ → Bool} {c u : ℕ} (f : Filled class c u) where
-  above : (v : ℕ) → v < 2 ^ (c + 1) → (k : ℕ) → c + 1 ≤ k → has v k ≡ (ltb k (c + 1) && class k)
-  above v l k h = has-high (c + 1) k v l h ∙ sym (ap (λ (t : Bool). t && class k) (le-ltb k (c + 1) h))
+module _ {test : ℕ → Bool} {c u : ℕ} (f : Filled test c u) where
+  above : (v : ℕ) → v < 2 ^ (c + 1) → (k : ℕ) → c + 1 ≤ k → has v k ≡ (ltb k (c + 1) && test k)
+  above v l k h = has-high (c + 1) k v l h ∙ sym (ap (λ (t : Bool). t && test k) (le-ltb k (c + 1) h))
 
-  below : (k : ℕ) → k < c → has u k ≡ (ltb k (c + 1) && class k)
-  below k l = f .bits k ∙ ap (λ (t : Bool). t && class k) (lt-ltb k c l ∙ sym (lt-ltb k (c + 1) (omega arith)))
+  below : (k : ℕ) → k < c → has u k ≡ (ltb k (c + 1) && test k)
+  below k l = f .bits k ∙ ap (λ (t : Bool). t && test k) (lt-ltb k c l ∙ sym (lt-ltb k (c + 1) (omega arith)))
 
-  pub filled-in : class c ≡ true → Filled class (c + 1) (1 * 2 ^ c + u)
+  pub filled-in : test c ≡ true → Filled test (c + 1) (1 * 2 ^ c + u)
   filled-in e =
       let p = power-next 2 c in
       let small : 1 * 2 ^ c + u < 2 ^ (c + 1) = omega (arith, f .small) in
@@ -46,11 +53,11 @@ module _ {class : ℕ → Bool} {c u : ℕ} (f : Filled class c u) where
         bits = λ k. below-or k c
             (λ l. has-under c u k (f .small) l ∙ below k l)
             (λ l. same-or k c
-            (λ q. ap (has (1 * 2 ^ c + u)) q ∙ has-top c u (f .small) ∙ sym (ap (λ (x : ℕ). ltb x (c + 1) && class x) q ∙ rw (lt-ltb c (c + 1) (omega arith)) e))
+            (λ q. ap (has (1 * 2 ^ c + u)) q ∙ has-top c u (f .small) ∙ sym (ap (λ (x : ℕ). ltb x (c + 1) && test x) q ∙ rw (lt-ltb c (c + 1) (omega arith)) e))
             (λ n. above (1 * 2 ^ c + u) small k (omega arith)));
       }
 
-  pub filled-out : class c ≡ false → Filled class (c + 1) u
+  pub filled-out : test c ≡ false → Filled test (c + 1) u
   filled-out e =
       let p = power-next 2 c in
       let small : u < 2 ^ (c + 1) = omega (arith, f .small) in
@@ -59,13 +66,33 @@ module _ {class : ℕ → Bool} {c u : ℕ} (f : Filled class c u) where
         bits = λ k. below-or k c
             (λ l. below k l)
             (λ l. same-or k c
-            (λ q. ap (has u) q ∙ has-high c c u (f .small) (omega arith) ∙ sym (ap (λ (x : ℕ). ltb x (c + 1) && class x) q ∙ rw (lt-ltb c (c + 1) (omega arith)) e))
+            (λ q. ap (has u) q ∙ has-high c c u (f .small) (omega arith) ∙ sym (ap (λ (x : ℕ). ltb x (c + 1) && test x) q ∙ rw (lt-ltb c (c + 1) (omega arith)) e))
             (λ n. above u small k (omega arith)));
       }
 
-pub filled-all : {class : ℕ → Bool} {c u : ℕ} → Filled class c u → has u ≡ (λ k. ltb k c && class k)
+pub filled-all : {test : ℕ → Bool} {c u : ℕ} → Filled test c u → has u ≡ (λ k. ltb k c && test k)
 filled-all f = fun-ext (f .bits)
 
--- a combination whose own count is x adds its seconds exactly if x is 0
-pub taken-is : (m : ℕ) (outside held : List ℕ) (c : ℕ) → c < 2 ^ m → taken (classOf m outside) (own m held) c ≡ only (eqb (own m outside c) 0) (own m held c)
-taken-is m outside held c l = ap (λ (t : Bool). only (t && eqb (own m outside c) 0) (own m held c)) (lt-ltb c (2 ^ m) l)
+-- the zeros of the outside counts are not out, and those that are zeros of the either counts as well are in
+
+both : (low x y : Bool) → ((low && x) && (low && y)) ≡ (low && (x && y))
+both true x y = refl
+both false x y = refl
+
+abbrev Zeros : ℕ → List ℕ → ℕ → Type 0
+Zeros m t u = has u ≡ (λ c. ltb c (2 ^ m) && inside m t c)
+
+pub bits-of : (m : ℕ) (outside either : List ℕ) (x y : ℕ) → x < 2 ^ (2 ^ m) → Zeros m outside x → Zeros m either y
+    → BitsOf m outside either (record { need = bitAnd x y; room = x })
+bits-of m outside either x y small hx hy = record {
+  small = omega (arith, and-le-l x y);
+  need = λ held. fun-ext
+      (λ c. has-and c x y ∙ ap₂ (λ (p q : ℕ → Bool). p c && q c) hx hy ∙ both (ltb c (2 ^ m)) (inside m outside c) (inside m either c)
+      ∙ sym (told-in (sheetWith m outside either held) c));
+  room = λ held. hx ∙ fun-ext (λ c. sym (told-not-out (sheetWith m outside either held) c));
+}
+
+-- a combination, whose single box is b, adds its seconds exactly if it has neither count
+pub taken-is : (s : Sheet) (c b : ℕ) → c < 2 ^ s .marks → b ≡ single (s .marks) c
+    → taken (inClass (recordOf s)) (own (s .marks) (s .held)) c ≡ only (eqb (entry (s .outside) b) 0 && eqb (entry (s .either) b) 0) (entry (s .held) b)
+taken-is s c b l e = rw (e, told-in s c, lt-ltb c (2 ^ s .marks) l)

@@ -8,11 +8,10 @@ use lib.ListN.{length, take, drop, length-take, length-append}
 use lib.Seq.{take-append-le}
 use Rattle.ground.specs.Areas.{laid, Wrote}
 use Rattle.ground.proofs.Areas.{laid-front}
-use Rattle.lists.specs.Lists.{Fits, FirstShortest}
-use Rattle.sets.specs.Sets.{has}
 use Rattle.seek.specs.Answer.{Sought}
 use Rattle.seek.specs.declared.Found.{Found}
 use Rattle.seek.specs.declared.Found.the-variants.{Boxes, Nothing}
+use Rattle.sheet.specs.declared.Value.{Value}
 use Rattle.listing.specs.Listing.{Searched, none, given}
 
 -- its place in the search's own area, ys of it lent and zs not
@@ -23,21 +22,27 @@ front-fits k ys zs l = omega (arith, length-append ys zs)
 pub front-size : (k : ℕ) (ys zs : List ℕ) → k ≤ length ys → k ≡ length (take k (ys ++ zs))
 front-size k ys zs l = simp length-take (omega (arith, front-fits k ys zs l))
 
--- what the search said, where its answer is known
-pub said : (m : ℕ) (p : ℕ → Bool) (ys : List ℕ) (r q : Found) → Sought m p p r ys → r ≡ q → Sought m p p q ys
-said m p ys r q s e = subst (λ (x : Found). Sought m p p x ys) e s
+module _ (m : ℕ) (need room : ℕ → Bool) where
+  -- what the search said, where its answer is known
+  pub said : (ys : List ℕ) (r q : Found) → Sought m need room r ys → r ≡ q → Sought m need room q ys
+  said ys r q s e = subst (λ (x : Found). Sought m need room x ys) e s
 
-module _ (m : ℕ) (class : ℕ → Bool) (bits : ℕ) (told : has bits ≡ class) (area : List ℕ) where
-  pub searched-given : (k : ℕ) (ys zs later : List ℕ) (r : ℕ) → Sought m (has bits) (has bits) (Boxes k) ys → Wrote area 0 (take k (ys ++ zs)) r later
-      → Searched m class area (record { number = 0; value = k }) later
-  searched-given k ys zs later r s w =
-      let l = take k ys in
-      let text : take k (ys ++ zs) ≡ l = take-append-le k ys zs (s .0) in
-      let size : length l ≡ k = length-take k ys ∙ omega (arith, s .0) in
-      let stands : later ≡ l ++ drop (length l) area = w .area ∙ ap (laid area 0) text ∙ laid-front area l in
-      subst (λ (n : ℕ). Searched m class area (record { number = 0; value = n }) later) size
-      (subst (Searched m class area (record { number = 0; value = length l })) (sym stands)
-      (given (subst (λ (p : ℕ → Bool). FirstShortest m p p l) told (s .1))))
+  module _ (area : List ℕ) where
+    pub searched-given : (k : ℕ) (ys zs later : List ℕ) (r : ℕ) → Sought m need room (Boxes k) ys → Wrote area 0 (take k (ys ++ zs)) r later
+        → Searched m need room area (record { number = 0; value = k }) later
+    searched-given k ys zs later r s w =
+        let l = take k ys in
+        let text : take k (ys ++ zs) ≡ l = take-append-le k ys zs (s .0) in
+        let size : length l ≡ k = length-take k ys ∙ omega (arith, s .0) in
+        let stands : later ≡ l ++ drop (length l) area = w .area ∙ ap (laid area 0) text ∙ laid-front area l in
+        subst (λ (n : ℕ). Searched m need room area (record { number = 0; value = n }) later) size
+        (subst (Searched m need room area (record { number = 0; value = length l })) (sym stands) (given (s .1)))
 
-  pub searched-none : (ys : List ℕ) → Sought m (has bits) (has bits) Nothing ys → Searched m class area (record { number = 6; value = 0 }) area
-  searched-none ys s = none (subst (λ (p : ℕ → Bool). (l : List ℕ) → Fits m p p l → ⊥) told s)
+    pub searched-none : (ys : List ℕ) → Sought m need room Nothing ys → Searched m need room area (record { number = 6; value = 0 }) area
+    searched-none ys s = none s
+
+-- the answer for two sets is that for what they are known to be
+pub searched-told : {m : ℕ} {p q need room : ℕ → Bool} {area later : List ℕ} {v : Value} → p ≡ need → q ≡ room → Searched m p q area v later
+    → Searched m need room area v later
+searched-told {m} {p} {q} {need} {room} {area} {later} {v} e f s =
+    subst (λ (x : ℕ → Bool). Searched m need x area v later) f (subst (λ (x : ℕ → Bool). Searched m x q area v later) e s)

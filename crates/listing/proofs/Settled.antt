@@ -11,8 +11,8 @@ use Rattle.sheet.specs.declared.Value.{Value}
 use Rattle.listing.specs.Listing.{Searched, Listed, Totalled}
 use Rattle.listing.specs.Listing.Searched.{none, given}
 
-searched-settled : {m : ℕ} {class : ℕ → Bool} {area : List ℕ} {a z : Value} {x y : List ℕ}
-    → Searched m class area a x → Searched m class area z y → (a ≡ z) × (x ≡ y)
+searched-settled : {m : ℕ} {need room : ℕ → Bool} {area : List ℕ} {a z : Value} {x y : List ℕ}
+    → Searched m need room area a x → Searched m need room area z y → (a ≡ z) × (x ≡ y)
 searched-settled (none p) (none q) = (refl, refl)
 searched-settled (none p) (given {l} q) = absurd (p l (q .fits))
 searched-settled (given {l} p) (none q) = absurd (q l (p .fits))

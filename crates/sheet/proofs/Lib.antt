@@ -1,5 +1,6 @@
 pub mod Between
 pub mod Tests
+pub mod Told
 pub mod Reading
 pub mod Ready
 pub mod Answers

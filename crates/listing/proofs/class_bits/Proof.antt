@@ -1,76 +1,17 @@
--- The bits below c are those of the class.
-use Prim.Native.Nat.{ℕ, _+_, _-_, _^_, _≤_, _<_}
-use mathlib.Core.Logic.{⊎-elim}
-use mathlib.Core.Path.{_≡_, sym, _∙_, ap, subst}
-use native.Mathlib.Omega.{arith}
-use native.Mathlib.Nat.{pow-le-pow-right}
-use lib.Pow.{shl-exact}
-use lib.Dec.{eqb, lit<}
-use lib.Bits.{bitOr, or-shifted-r}
+-- The zeros of both counts, and their `&`.
 use borrow.Author.Needs.{needs}
-use borrow.Author.Tests.{eq-eqb, ne-eqb}
-use Rattle.sheet.specs.Limits.{entries}
-use Rattle.listing.proofs.Filled.{inside, Filled, filled-none, filled-in, filled-out, filled-all}
-use Rattle.tables.specs.Tables.{entry, own}
+use Rattle.listing.proofs.Filled.{bits-of}
 use Rattle.listing.proofs.class_bits.Statement.{statement}
 use Rattle.listing.proofs.class_bits.Tie as tie
 
-abbrev Inv-loop : tie.InvT-loop
-Inv-loop m outside n class₀ c₀ class c = (c ≤ n) × (n ≡ 2 ^ m) × Filled (inside m outside) c class
+zeros-requires : tie.Need-zeros-requires
+zeros-requires c κs = search needs
 
-abbrev μ-loop : tie.MeasureT-loop
-μ-loop m outside n class₀ c₀ class c = n - c
+zeros-requires-2 : tie.Need-zeros-requires-2
+zeros-requires-2 c κs = search needs
 
-few : (c : tie.In-loop Inv-loop μ-loop) → c .before .loop .c < 32
-few c = omega (arith, c .before .loop .inv .1, pow-le-pow-right {n = 2} (omega arith) {i = c .before .before .before .before .args .m} {j = 5} (omega arith))
-
-small : (c : tie.After-single Inv-loop μ-loop) → c .single .result < entries
-small c = omega (arith, c .single .ensures .1, pow-le-pow-right {n = 3} (omega arith) {i = c .before .before .before .before .before .args .m} {j = 5} (omega arith))
-
-own-is : (c : tie.After-shared-slice-known2 Inv-loop μ-loop)
-    → let a = c .before .before .before .before .before .before .args in entry (a .outside .now) (c .before .single .result) ≡ own (a .m) (a .outside .now) (c .before .before .before .loop .c)
-own-is c = ap (entry (c .before .before .before .before .before .before .args .outside .now)) (c .before .single .ensures .0)
-
-loop-holds : tie.Need-loop-holds Inv-loop μ-loop
-loop-holds c = (omega arith, c .power2 .ensures .0, filled-none _)
-
-mul-if1 : tie.Need-mul-if1 Inv-loop μ-loop
-mul-if1 c = omega (arith, small c)
-
-shared-slice-read-if1 : tie.Need-shared-slice-read-if1 Inv-loop μ-loop
-shared-slice-read-if1 c = omega (arith, small (c .before), c .before .before .before .before .before .before .pre .1)
-
-cast-class : tie.Need-cast-class Inv-loop μ-loop
-cast-class c = omega (arith, few (c .before .before .before))
-
-shl-class : tie.Need-shl-class Inv-loop μ-loop
-shl-class c = omega (arith, few (c .before .before .before))
-
-loop-again : tie.Need-loop-again Inv-loop μ-loop
-loop-again c =
-    let l = c .before .before .before .before .loop in
-    let a = c .before .before .before .before .before .before .before .args in
-    let here = own-is (c .before) in (
-      omega arith,
-      l .inv .1,
-      ⊎-elim
-          (λ w.
-          let put = ap (bitOr (l .class)) (shl-exact 1 (l .c) 32 (lit< tt) (omega (arith, few (c .before .before .before)))) ∙ or-shifted-r 1 (l .c) (l .class) (l .inv .2 .small) in
-          subst (Filled (inside (a .m) (a .outside .now)) (l .c + 1)) (sym (w .1 ∙ put)) (filled-in (l .inv .2) (ap (λ (x : ℕ). eqb x 0) (sym here) ∙ eq-eqb _ 0 (w .0 .taken))))
-          (λ w.
-          subst (Filled (inside (a .m) (a .outside .now)) (l .c + 1)) (sym (w .1)) (filled-out (l .inv .2) (ap (λ (x : ℕ). eqb x 0) (sym here) ∙ ne-eqb _ 0 (w .0 .left))))
-          (c .if1 .came),
-    )
-
-returns : tie.Need-returns Inv-loop μ-loop
-returns c =
-    let l = c .before .loop in
-    let a = c .before .before .before .before .args in
-    let e : l .c ≡ 2 ^ a .m = omega arith in
-    let f = subst (λ (n : ℕ). Filled (inside (a .m) (a .outside .now)) n (l .class)) e (l .inv .2) in
-    (f .small, filled-all f)
+returns : tie.Need-returns
+returns c = let z = c .before .zeros .ensures in bits-of _ _ _ _ _ (z .0) (z .1) (c .zeros2 .ensures .1)
 
 pub class-bits-spec : {M : Type 1} → statement M
-class-bits-spec = tie.close (tie.spec
-    Inv-loop μ-loop (λ c κs. search needs) loop-holds (λ c κs. search needs) mul-if1 shared-slice-read-if1 cast-class
-    shl-class (λ c. search needs) (λ c. search needs) loop-again returns)
+class-bits-spec = tie.close (tie.spec zeros-requires zeros-requires-2 returns)

@@ -1,44 +1,52 @@
 -- The seconds of the class below c are added up.
-use Prim.Native.Nat.{ℕ, _+_, _*_, _-_, _^_, _≤_}
-use mathlib.Core.Path.{_≡_, refl, sym, _∙_, ap, ap₂}
+use Prim.Native.Nat.{ℕ, _*_, _-_, _^_, _≤_}
+use mathlib.Core.Path.{_≡_, refl, sym, _∙_, ap}
+use mathlib.Core.List.{List}
 use native.Mathlib.Omega.{arith}
 use native.Mathlib.Numerals.{add-one}
 use native.Mathlib.Nat.{pow-le-pow-right}
 use borrow.Author.Needs.{needs}
 use Rattle.listing.specs.Listing.{taken}
-use Rattle.sheet.specs.Sound.{classOf}
+use Rattle.sheet.specs.Record.{inClass, sheetWith}
+use Rattle.sheet.specs.Sound.{recordOf}
 use Rattle.tables.specs.Tables.{own}
 use Rattle.boxes.specs.Sums.{sum}
 use Rattle.listing.proofs.in_class.Statement.{statement}
 use Rattle.listing.proofs.in_class.Tie as tie
 
+abbrev upto : ℕ → (outside either held : List ℕ) → ℕ → ℕ
+upto m outside either held n = sum n (taken (inClass (recordOf (sheetWith m outside either held))) (own m held))
+
 abbrev Inv-loop : tie.InvT-loop
-Inv-loop m outside held n total₀ c₀ total c = (c ≤ n) × (n ≡ 2 ^ m) × (total ≤ c * 4294967296) × (total ≡ sum c (taken (classOf m outside) (own m held)))
+Inv-loop m outside either held n total₀ c₀ total c = (c ≤ n) × (n ≡ 2 ^ m) × (total ≤ c * 4294967296) × (total ≡ upto m outside either held c)
 
 abbrev μ-loop : tie.MeasureT-loop
-μ-loop m outside held n total₀ c₀ total c = n - c
+μ-loop m outside either held n total₀ c₀ total c = n - c
 
 loop-holds : tie.Need-loop-holds Inv-loop μ-loop
 unfolding sum
 loop-holds c = (omega arith, c .power2 .ensures .0, omega arith, refl)
 
 add-total : tie.Need-add-total Inv-loop μ-loop
-add-total c = omega (arith, c .seconds-of .ensures .1, pow-le-pow-right {n = 2} (omega arith) {i = c .before .before .before .before .before .before .args .m} {j = 5} (omega arith))
+add-total c = omega (arith, c .seconds-of .ensures .1, pow-le-pow-right {n = 2} (omega arith) {i = c .before .before .before .before .before .before .before .args .m} {j = 5} (omega arith))
 
 loop-again : tie.Need-loop-again Inv-loop μ-loop
 unfolding sum
 loop-again c =
     let l = c .before .before .loop in
-    let a = c .before .before .before .before .before .before .args in
-    let e = ap₂ (λ (x y : ℕ). x + y) (l .inv .3) (c .seconds-of .ensures .0) in
-    (omega arith, l .inv .1, omega (arith, c .seconds-of .ensures .1), e ∙ ap (λ (n : ℕ). sum n (taken (classOf (a .m) (a .outside .now)) (own (a .m) (a .held .now)))) (sym (add-one (l .c))))
+    let a = c .before .before .before .before .before .before .before .args in (
+      omega arith,
+      l .inv .1,
+      omega (arith, c .seconds-of .ensures .1),
+      rw (l .inv .3, c .seconds-of .ensures .0) (ap (upto (a .m) (a .outside .now) (a .either .now) (a .held .now)) (sym (add-one (l .c)))),
+    )
 
 returns : tie.Need-returns Inv-loop μ-loop
 returns c =
     let l = c .before .loop in
-    let a = c .before .before .before .before .before .args in
+    let a = c .before .before .before .before .before .before .args in
     let e : l .c ≡ 2 ^ a .m = omega arith in
-    l .inv .3 ∙ ap (λ (n : ℕ). sum n (taken (classOf (a .m) (a .outside .now)) (own (a .m) (a .held .now)))) e
+    l .inv .3 ∙ ap (upto (a .m) (a .outside .now) (a .either .now) (a .held .now)) e
 
 pub in-class-spec : {M : Type 1} → statement M
 in-class-spec = tie.close (tie.spec

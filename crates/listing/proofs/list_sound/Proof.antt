@@ -4,33 +4,48 @@ use native.Mathlib.Omega.{arith}
 use lib.ListN.{length}
 use borrow.Author.Needs.{needs}
 use Rattle.listing.specs.Listing.Listed.{short, searched}
+use Rattle.listing.proofs.Given.{searched-told}
 use Rattle.sheet.proofs.Tests.{marks-most}
 use Rattle.sheet.specs.Limits.{entries, mostMarks}
 use Rattle.listing.proofs.list_sound.Statement.{statement}
 use Rattle.listing.proofs.list_sound.Tie as tie
 
-long : (c : tie.Start) → length (c .args .sheet .outside) ≡ entries
-long c = search needs
+long : (c : tie.Start) → (length (c .args .sheet .outside) ≡ entries) × (length (c .args .sheet .either) ≡ entries)
+long c = (search needs, search needs)
 
 power2-requires : tie.Need-power2-requires
-power2-requires c κs = omega (arith, marks-most mostMarks _ (c .before .before .pre .marks))
+power2-requires c κs = omega (arith, marks-most mostMarks _ (c .before .before .before .pre .marks))
 
 returns : tie.Need-returns
-returns c = short (c .before .before .before .before .pre) (omega (arith, c .before .power2 .ensures .0))
+returns c = short (c .before .before .before .before .before .pre) (omega (arith, c .before .power2 .ensures .0))
 
-slice-aggregate-searched : tie.Need-slice-aggregate-searched
-slice-aggregate-searched c = search needs
+slice-aggregate-class-bits : tie.Need-slice-aggregate-class-bits
+slice-aggregate-class-bits c = search needs
+
+slice-aggregate-class-bits-2 : tie.Need-slice-aggregate-class-bits-2
+slice-aggregate-class-bits-2 c = search needs
+
+class-bits-requires : tie.Need-class-bits-requires
+class-bits-requires c κs =
+    let s = c .before .before .before .before .before .before .before in
+    (marks-most mostMarks _ (s .pre .marks), omega (arith, long s .0), omega (arith, long s .1))
 
 searched-requires : tie.Need-searched-requires
 searched-requires c κs =
-    let s = c .before .before .before .before .before .before in
-    (marks-most mostMarks _ (s .pre .marks), omega (arith, long s), omega (arith, c .before .before .before .power2 .ensures .0))
+    let p = c .before .before .before .before .before in
+    (marks-most mostMarks _ (p .before .before .before .before .pre .marks), c .before .class-bits .ensures .small, omega (arith, p .power2 .ensures .0))
 
 same-length : tie.Need-same-length
 same-length c = search needs
 
 returns-2 : tie.Need-returns-2
-returns-2 c = searched (c .before .before .before .before .before .before .before .before .before .pre) (omega (arith, c .before .before .before .before .before .before .power2 .ensures .0)) (c .before .before .searched .ensures)
+returns-2 c =
+    let b = c .before .before .before .before in
+    let p = b .before .before .before .before in
+    let s = p .before .before .before .before in
+    let told = b .class-bits .ensures in
+    let held = s .args .sheet .held in
+    searched (s .pre) (omega (arith, p .power2 .ensures .0)) (searched-told (told .need held) (told .room held) (c .before .before .searched .ensures))
 
 pub list-sound-spec : {M : Type 1} → statement M
 list-sound-spec =
@@ -38,7 +53,9 @@ list-sound-spec =
     (tie.spec
     power2-requires
     returns
-    slice-aggregate-searched
+    slice-aggregate-class-bits
+    slice-aggregate-class-bits-2
+    class-bits-requires
     searched-requires
     same-length
     returns-2)
