@@ -14,8 +14,8 @@
 //
 // The walk. Where many boxes weigh 1 all the same, the way goes on to other weights that are as good, and the mean of all is taken: a box
 // weighs 1 in it only if it does in each. Combinations count the less the more boxes of weight 1 they are in, so that these get lighter.
-// Then a row is below 0, and goes out, and what comes in is what first weighs too much as the weights change: every step keeps to weights
-// that are allowed. A step costs as much as a pivot, and so few are needed that a start from the beginning would cost several times all.
+// Then a row is below 0, and goes out, and what comes in is what first weighs too much as the weights change (the dual simplex): each step
+// leads to weights that are allowed too. A step takes as long as a pivot or two, another start as long as all pivots together.
 //
 // No contract. Propose freely, check by proof: whoever uses the weights works out with whole numbers whether any box weighs too much, so
 // nothing is promised but that the calls are safe and end, whatever the tables hold and however the floats round.
@@ -270,7 +270,7 @@ fn start(need: u32, inverse: &mut [f64; 1024], x: &mut [f64; 32], y: &mut [f64; 
     }
 }
 
-// What comes in next, by the weights.
+// What comes in next, by the weights; v is lent for what the boxes weigh, so that it is not made anew for each pivot.
 fn best_of(
     boxes: &[usize; 243],
     n: usize,
@@ -279,12 +279,12 @@ fn best_of(
     lows: &[usize; 243],
     spare: u32,
     y: &[f64; 32],
+    v: &mut [f64; 243],
 ) -> Best
     requires { ⌜ n ≤ 243 ⌝ }
 {
-    let mut v = [0.0; 243];
-    weigh(boxes, n, singles, lows, y, &mut v);
-    or_spare(best_box(boxes, n, sets, &v), spare, y)
+    weigh(boxes, n, singles, lows, y, v);
+    or_spare(best_box(boxes, n, sets, v), spare, y)
 }
 
 // The best weights from the start.
@@ -301,9 +301,10 @@ fn climb(
 )
     requires { ⌜ n ≤ 243 ⌝ }
 {
+    let mut v = [0.0; 243];
     let mut k: usize = 0;
     while k < 200 {
-        let best = best_of(boxes, n, sets, singles, lows, spare, y);
+        let best = best_of(boxes, n, sets, singles, lows, spare, y, &mut v);
         if pivot(best, inverse, x, y) {
             k += 1;
         } else {
@@ -366,6 +367,11 @@ fn count_anew(singles: &[usize; 32], marks: &[f64; 243], inverse: &[f64; 1024], 
     }
 }
 
+// From how many boxes of weight 1 on a walk is worth its steps: later where all of the room is needed, since such a search is soon over.
+fn many(spare: u32) -> f64 {
+    if spare == 0 { 51.0 } else { 37.0 }
+}
+
 // Turns the walk to where boxes that weigh 1 get lighter. False where that is not worth a step: a list of few boxes, or of boxes from a
 // small choice, is found at once.
 fn turn(
@@ -373,6 +379,7 @@ fn turn(
     n: usize,
     singles: &[usize; 32],
     lows: &[usize; 243],
+    spare: u32,
     mean: &[f64; 32],
     inverse: &[f64; 1024],
     x: &mut [f64; 32],
@@ -385,7 +392,7 @@ fn turn(
     let mut v = [0.0; 243];
     weigh(boxes, n, singles, lows, mean, &mut v);
     let mut marks = [0.0; 243];
-    if mark_full(boxes, n, &v, &mut marks) < 36.5 {
+    if mark_full(boxes, n, &v, &mut marks) < many(spare) {
         return false;
     }
     hand_down(boxes, n, lows, &mut marks);
@@ -511,7 +518,7 @@ fn step(
     exchange(&mut d, row, near.gain, inverse, x, y)
 }
 
-// The mean of the best weights along the walk, which is in `mean` at the end.
+// Makes of the best weights, `mean`, the mean of them and of those along the walk.
 fn walk(
     boxes: &[usize; 243],
     n: usize,
@@ -528,18 +535,16 @@ fn walk(
     let mut seen = 1.0;
     let mut k: usize = 0;
     while k < 30 {
-        k += 1;
         let mut x = [0.0; 32];
-        if turn(boxes, n, singles, lows, mean, inverse, &mut x) {
-            if step(boxes, n, sets, singles, lows, spare, inverse, &mut x, y) {
-                seen = seen + 1.0;
-                closer(mean, y, 1.0 / seen);
-            } else {
-                k = 30;
-            }
-        } else {
-            k = 30;
+        if !turn(boxes, n, singles, lows, spare, mean, inverse, &mut x) {
+            return;
         }
+        if !step(boxes, n, sets, singles, lows, spare, inverse, &mut x, y) {
+            return;
+        }
+        seen = seen + 1.0;
+        closer(mean, y, 1.0 / seen);
+        k += 1;
     }
 }
 
@@ -606,7 +611,8 @@ pub fn propose(sets: &[u32; 243], singles: &[usize; 32], need: u32, room: u32) -
         &mut mean,
     );
     // where a box still weighs more than 1, all weights are made less
-    let best = best_of(&boxes, n, sets, singles, &lows, spare, &mean);
+    let mut v = [0.0; 243];
+    let best = best_of(&boxes, n, sets, singles, &lows, spare, &mean, &mut v);
     let most = 1.0 + best.gain;
     rounded(&mean, 1.0 / most)
 }

@@ -5,10 +5,10 @@ use Rattle.weights.proofs.climb.Statement.{statement}
 use Rattle.weights.proofs.climb.Tie as tie
 
 abbrev Inv-loop : tie.InvT-loop
-Inv-loop boxes n sets singles lows spare inverse₀ x₀ y₀ k₀ inverse x y k = k ≤ 200
+Inv-loop boxes n sets singles lows spare inverse₀ x₀ y₀ v₀ k₀ inverse x y v k = k ≤ 200
 
 abbrev μ-loop : tie.MeasureT-loop
-μ-loop boxes n sets singles lows spare inverse₀ x₀ y₀ k₀ inverse x y k = 200 - k
+μ-loop boxes n sets singles lows spare inverse₀ x₀ y₀ v₀ k₀ inverse x y v k = 200 - k
 
 pub climb-spec : {M : Type 1} → statement M
 climb-spec = tie.close (tie.spec

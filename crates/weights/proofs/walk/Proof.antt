@@ -1,4 +1,4 @@
--- The loop ends: each turn counts a step, and the last one counts as 30.
+-- The loop ends: each turn counts a step.
 use Prim.Native.Nat.{_≤_, _-_}
 use borrow.Author.Needs.{needs}
 use Rattle.weights.proofs.walk.Statement.{statement}
@@ -12,6 +12,6 @@ abbrev μ-loop : tie.MeasureT-loop
 
 pub walk-spec : {M : Type 1} → statement M
 walk-spec = tie.close (tie.spec
-    Inv-loop μ-loop (λ c. search needs) (λ c. search needs) (λ c κs. search needs) (λ c κs. search needs)
-    (λ c κs. search needs) (λ c. search needs) (λ c. search needs) (λ c. search needs) (λ c. search needs)
-    (λ c. search needs) (λ c. search needs) (λ c. search needs))
+    Inv-loop μ-loop (λ c. search needs) (λ c κs. search needs) (λ c. search needs) (λ c κs. search needs)
+    (λ c. search needs) (λ c κs. search needs) (λ c. search needs) (λ c. search needs) (λ c. search needs)
+    (λ c. search needs))
