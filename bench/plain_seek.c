@@ -141,7 +141,7 @@ static bool pivot(const struct inside *in, uint32_t spare, double *inv, double *
 }
 
 /* Turns the walk to where boxes that weigh 1 get lighter, if they are many and the list is not short. */
-static bool turn(const struct inside *in, const double *mean, const double *inv, double *x)
+static bool turn(const struct inside *in, uint32_t spare, const double *mean, const double *inv, double *x)
 {
     double v[243], marks[243] = {0}, all = 0.0;
     int full = 0;
@@ -155,7 +155,7 @@ static bool turn(const struct inside *in, const double *mean, const double *inv,
             marks[in->boxes[i]] = 1.0;
             full++;
         }
-    if (full <= 36)
+    if (full < (spare == 0 ? 51 : 37))
         return false;
     for (size_t i = in->n; i-- > 0;) {
         size_t b = in->boxes[i], p = lows[b];
@@ -218,7 +218,7 @@ static void walk(const struct inside *in, uint32_t spare, double *inv, double *y
     double seen = 1.0;
     for (int k = 0; k < 30; k++) {
         double x[32] = {0};
-        if (!turn(in, mean, inv, x) || !step(in, spare, inv, x, y))
+        if (!turn(in, spare, mean, inv, x) || !step(in, spare, inv, x, y))
             return;
         seen += 1.0;
         closer(mean, y, 1.0 / seen);
