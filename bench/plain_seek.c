@@ -35,7 +35,12 @@ static void tables(void)
     ready = true;
 }
 
-/* ---- weights: the dual of the covering programme by a revised simplex, the inverse kept by columns */
+/* ---- weights: the dual of the covering programme by a revised simplex, the inverse kept by columns, and a walk along weights that are as good */
+
+/* The boxes of the room, in rising number. */
+struct inside {
+    size_t n, boxes[243];
+};
 
 static void less(double *x, const double *d, double t)
 {
@@ -43,10 +48,28 @@ static void less(double *x, const double *d, double t)
         x[i] -= t * d[i];
 }
 
-static void row_more(const double *inv, size_t j, double *d)
+static void closer(double *x, const double *y, double share)
 {
     for (int i = 0; i < 32; i++)
-        d[i] += inv[j * 32 + i];
+        x[i] += (y[i] - x[i]) * share;
+}
+
+static void column(const double *inv, uint32_t set, double *d)
+{
+    for (size_t c = 0; c < 32; c++)
+        if ((set >> c) % 2 == 1)
+            less(d, inv + c * 32, -1.0);
+}
+
+static void weigh(const struct inside *in, const double *y, double *v)
+{
+    for (size_t c = 0; c < 32; c++)
+        v[singles[c]] = y[c];
+    for (size_t i = 0; i < in->n; i++) {
+        size_t b = in->boxes[i], p = lows[b];
+        if (p != 0)
+            v[b] = v[b - p * 2] + v[b - p];
+    }
 }
 
 static size_t leaving(const double *x, const double *d)
@@ -67,78 +90,155 @@ static size_t leaving(const double *x, const double *d)
     return l;
 }
 
-static size_t entering(uint32_t need, uint32_t room, const double *y, double *gain)
+/* The set that comes in, 0 if none gains. */
+static uint32_t entering(const struct inside *in, uint32_t spare, const double *y, double *gain)
 {
-    double v[243] = {0}, best = 0.000000001;
-    size_t which = 275;
-    for (size_t c = 0; c < 32; c++)
-        v[singles[c]] = y[c];
-    for (size_t b = 0; b < 243; b++) {
-        uint32_t s = sets[b];
-        if ((s & room) == s) {
-            size_t p = lows[b];
-            if (p != 0)
-                v[b] = v[b - p * 2] + v[b - p];
-            double r = v[b] - 1.0;
-            if (r > best) {
-                best = r;
-                which = b;
-            }
+    double v[243], best = 0.000000001;
+    uint32_t set = 0;
+    weigh(in, y, v);
+    for (size_t i = 0; i < in->n; i++) {
+        double over = v[in->boxes[i]] - 1.0;
+        if (over > best) {
+            best = over;
+            set = sets[in->boxes[i]];
         }
     }
-    uint32_t spare = room & ~need;
     for (size_t c = 0; c < 32; c++)
         if ((spare >> c) % 2 == 1 && y[c] > best) {
             best = y[c];
-            which = 243 + c;
+            set = 1u << c;
         }
     *gain = best;
-    return which;
+    return set;
 }
 
-static bool pivot(uint32_t need, uint32_t room, double *inv, double *x, double *y)
+static void exchange(double *d, size_t row, double gain, double *inv, double *x, double *y)
 {
-    double gain, d[32] = {0};
-    size_t b = entering(need, room, y, &gain);
-    if (b < 243) {
-        for (size_t c = 0; c < 32; c++)
-            if ((sets[b] >> c) % 2 == 1)
-                row_more(inv, c, d);
-    } else if (b < 275) {
-        row_more(inv, b - 243, d);
-    } else {
-        return false;
-    }
-    size_t l = leaving(x, d);
-    if (l == 32)
-        return false;
-    double share = 1.0 / d[l], t = x[l] * share;
-    d[l] -= 1.0;
+    double share = 1.0 / d[row], t = x[row] * share;
+    d[row] -= 1.0;
     less(x, d, t);
     for (size_t j = 0; j < 32; j++) {
-        double u = inv[j * 32 + l] * share;
+        double u = inv[j * 32 + row] * share;
         if (u != 0.0) {
             y[j] -= gain * u;
             less(inv + j * 32, d, u);
         }
     }
+}
+
+static bool pivot(const struct inside *in, uint32_t spare, double *inv, double *x, double *y)
+{
+    double gain, d[32] = {0};
+    uint32_t set = entering(in, spare, y, &gain);
+    if (set == 0)
+        return false;
+    column(inv, set, d);
+    size_t row = leaving(x, d);
+    if (row == 32)
+        return false;
+    exchange(d, row, gain, inv, x, y);
     return true;
 }
 
-static void solve(uint32_t need, uint32_t room, double seed, double amount, double *sum)
+/* Turns the walk to where boxes that weigh 1 get lighter, if they are many and the list is not short. */
+static bool turn(const struct inside *in, uint32_t spare, const double *mean, const double *inv, double *x)
+{
+    double v[243], marks[243] = {0}, all = 0.0;
+    int full = 0;
+    for (size_t c = 0; c < 32; c++)
+        all += mean[c];
+    if (all < 5.5)
+        return false;
+    weigh(in, mean, v);
+    for (size_t i = 0; i < in->n; i++)
+        if (v[in->boxes[i]] > 0.999999) {
+            marks[in->boxes[i]] = 1.0;
+            full++;
+        }
+    if (full < (spare == 0 ? 51 : 37))
+        return false;
+    for (size_t i = in->n; i-- > 0;) {
+        size_t b = in->boxes[i], p = lows[b];
+        if (p != 0) {
+            marks[b - p * 2] += marks[b];
+            marks[b - p] += marks[b];
+        }
+    }
+    for (size_t c = 0; c < 32; c++)
+        less(x, inv + c * 32, marks[singles[c]] * 0.0001 - 1.0);
+    return true;
+}
+
+struct near {
+    uint32_t set;
+    double gain, least, size;
+};
+
+static void nearer(struct near *near, uint32_t set, double gain, double size)
+{
+    if (size > 0.0000001) {
+        double q = (0.0 - gain) / size;
+        if (q < near->least - 0.000000000001 || (q < near->least + 0.000000000001 && size > near->size))
+            *near = (struct near){set, gain, q, size};
+    }
+}
+
+static bool step(const struct inside *in, uint32_t spare, double *inv, double *x, double *y)
+{
+    size_t row = 32;
+    double least = -0.0000001, u[32], v[243], w[243], d[32] = {0};
+    struct near near = {0, 0.0, 1000000.0, 0.0};
+    for (size_t i = 0; i < 32; i++)
+        if (x[i] < least) {
+            row = i;
+            least = x[i];
+        }
+    if (row == 32)
+        return false;
+    for (size_t c = 0; c < 32; c++)
+        u[c] = inv[c * 32 + row];
+    weigh(in, y, v);
+    weigh(in, u, w);
+    for (size_t i = 0; i < in->n; i++) {
+        size_t b = in->boxes[i];
+        nearer(&near, sets[b], v[b] - 1.0, 0.0 - w[b]);
+    }
+    for (size_t c = 0; c < 32; c++)
+        if ((spare >> c) % 2 == 1)
+            nearer(&near, 1u << c, y[c], 0.0 - u[c]);
+    if (near.set == 0)
+        return false;
+    column(inv, near.set, d);
+    exchange(d, row, near.gain, inv, x, y);
+    return true;
+}
+
+static void walk(const struct inside *in, uint32_t spare, double *inv, double *y, double *mean)
+{
+    double seen = 1.0;
+    for (int k = 0; k < 30; k++) {
+        double x[32] = {0};
+        if (!turn(in, spare, mean, inv, x) || !step(in, spare, inv, x, y))
+            return;
+        seen += 1.0;
+        closer(mean, y, 1.0 / seen);
+    }
+}
+
+static void solve(const struct inside *in, uint32_t need, uint32_t spare, double *mean)
 {
     double inv[1024] = {0}, x[32], y[32] = {0}, one = 1.0;
     for (size_t c = 0; c < 32; c++) {
         inv[c * 33] = 1.0;
-        x[c] = one + amount * seed;
+        x[c] = one;
         one += 0.00001;
-        seed = 3.99 * seed * (1.0 - seed);
         if ((need >> c) % 2 == 1)
             y[c] = 1.0;
     }
-    for (int k = 0; k < 200 && pivot(need, room, inv, x, y); k++)
+    for (int k = 0; k < 200 && pivot(in, spare, inv, x, y); k++)
         ;
-    less(sum, y, -1.0);
+    memcpy(mean, y, sizeof y);
+    walk(in, spare, inv, y, mean);
 }
 
 static uint32_t parts(double y, double more)
@@ -149,15 +249,13 @@ static uint32_t parts(double y, double more)
 
 static void propose(uint32_t need, uint32_t room, uint32_t *plus, uint32_t *minus)
 {
-    double sum[32] = {0}, y[32] = {0}, seed = 0.1, amount = 0.0, starts = 0.0, gain;
-    for (int r = 0; r < (need == room ? 1 : 6); r++) {
-        solve(need, room, seed, amount, sum);
-        starts += 1.0;
-        seed += 0.13;
-        amount = 0.01;
-    }
-    less(y, sum, -1.0 / starts);
-    entering(need, room, y, &gain);
+    struct inside in = {0};
+    double y[32], gain;
+    for (size_t b = 0; b < 243; b++)
+        if ((sets[b] & room) == sets[b])
+            in.boxes[in.n++] = b;
+    solve(&in, need, room & ~need, y);
+    entering(&in, room & ~need, y, &gain);
     double scale = 1.0 / (1.0 + gain);
     for (size_t c = 0; c < 32; c++) {
         double w = y[c] * scale;

@@ -1,5 +1,5 @@
-/* The library's times beside those of plain C for the same jobs, and of glpk for the list: sheets of five marks in their stored form, lists that are checked,
-   and PLA texts, one table.
+/* The library's times beside those of plain C for the same jobs, and of glpk for the list: sheets of five marks in their stored form, the search for lists with
+   either combinations, which may be covered and need not, lists that are checked, and PLA texts, one table.
 
    Each job is done on each sheet in every round, by each version in turn. Of a sheet the least processor time counts, so that what else runs on the
    machine shows little; mean and worst are over the sheets. All replies and all that was written are compared; glpk tells only the length of the list. */
@@ -12,10 +12,10 @@
 #include <string.h>
 #include <time.h>
 
-enum { CLASSES = 20000, HARD = 15, PAIRS = 2000, SHEETS = 500, TEXTS = 3, LINES = 1000000, VERSIONS = 4 };
+enum { CLASSES = 20000, HARD = 15, ROOMS = 4, PAIRS = 2000, HARD_PAIRS = 5, SHEETS = 500, TEXTS = 3, LINES = 1000000, VERSIONS = 4 };
 
 struct form {
-    uint32_t class, room;
+    uint32_t class, room; /* the room has the class and the either combinations */
     uint8_t bytes[VAULT_FORM_SIZE];
     size_t n;
     uint64_t c, seconds;
@@ -25,7 +25,7 @@ struct form {
     size_t lines;
 };
 
-static struct form random_classes[CLASSES], hard[HARD], pairs[PAIRS], texts[TEXTS], million;
+static struct form random_classes[CLASSES], hard[HARD], pairs[ROOMS * PAIRS], hard_pairs[HARD_PAIRS], texts[TEXTS], million;
 
 typedef struct vault_reply job(const struct form *f, uint8_t *out);
 
@@ -44,6 +44,15 @@ static uint32_t draw(void)
     state ^= state >> 7;
     state ^= state << 17;
     return (uint32_t)(state >> 16);
+}
+
+/* A random set of combinations. */
+static uint32_t draw_set(double density)
+{
+    uint32_t bound = (uint32_t)(density * 4294967295.0), set = 0;
+    for (int c = 0; c < 32; c++)
+        set |= (uint32_t)(draw() <= bound) << c;
+    return set;
 }
 
 /* ---- the sheets */
@@ -74,22 +83,32 @@ static void make(struct form *f, uint32_t class, uint32_t held)
     f->seconds = 1 + draw() % VAULT_MOST_AMOUNT;
 }
 
-/* Random classes of densities 0.2 to 1, those that a search for bad ones found, and pairs of a class and the room that its boxes may take. */
-static void make_all(void)
+/* Random classes of densities 0.2 to 1, and those that a search for bad ones found. */
+static void make_classes(void)
 {
     static const uint32_t known[HARD] = {0xf66fdbbf, 0xb7eddbb7, 0xd7ebbdd7, 0xbe7ddbb7, 0xf99f9ffe, 0x9ff9f97f, 0xebd77eeb, 0x977f7fff,
                                          0xffffffff, 0xfffefffe, 0x69969669, 0x7f97ed7f, 0xffffbfff, 0xfddf6dda, 0xffd76bd6};
     for (int i = 0; i < CLASSES; i++) {
-        uint32_t bound = (uint32_t)((0.2 + 0.8 * (i % SHEETS) / (SHEETS - 1)) * 4294967295.0), class = 0;
-        for (int c = 0; c < 32; c++)
-            class |= (uint32_t)(draw() <= bound) << c;
+        uint32_t class = draw_set(0.2 + 0.8 * (i % SHEETS) / (SHEETS - 1));
         make(&random_classes[i], class, draw());
     }
     for (int i = 0; i < HARD; i++)
         make(&hard[i], known[i], 0);
-    for (int i = 0; i < PAIRS; i++) {
-        pairs[i].room = draw() | draw();
-        pairs[i].class = pairs[i].room & draw();
+}
+
+/* Random rooms, of one density each row, with classes of several densities in them, and pairs that were hard for earlier searches. */
+static void make_pairs(void)
+{
+    static const double room[ROOMS] = {0.5, 0.75, 0.9, 1}, class[4] = {0.25, 0.5, 0.75, 0.9};
+    static const uint32_t known[HARD_PAIRS][2] = {
+        {0x98866118, 0xbfd6e7ff}, {0x967d2dd2, 0x977f7fff}, {0x6ff63009, 0x6ff7ffbf}, {0xe7feaf76, 0xe7ffaff7}, {0x7ffbffdf, 0x7fffffdf}};
+    for (int i = 0; i < ROOMS * PAIRS; i++) {
+        pairs[i].room = draw_set(room[i / PAIRS]);
+        pairs[i].class = pairs[i].room & draw_set(class[i % 4]);
+    }
+    for (int i = 0; i < HARD_PAIRS; i++) {
+        hard_pairs[i].class = known[i][0];
+        hard_pairs[i].room = known[i][1];
     }
 }
 
@@ -201,7 +220,11 @@ struct row {
 static const struct row rows[] = {
     {"list, 20,000 random classes, ms", MS, random_classes, CLASSES, 5, 1, {list, list_s, list_p, list_g}},
     {"list, 15 hard classes, ms", MS, hard, HARD, 100, 1, {list, list_s, list_p, list_g}},
-    {"search, 2,000 pairs, ms", MS, pairs, PAIRS, 10, 1, {search, search_s, NULL, NULL}},
+    {"with either, room 1/2, ms", MS, pairs, PAIRS, 5, 1, {search, search_s, NULL, NULL}},
+    {"with either, room 3/4, ms", MS, &pairs[PAIRS], PAIRS, 5, 1, {search, search_s, NULL, NULL}},
+    {"with either, room 9/10, ms", MS, &pairs[2 * PAIRS], PAIRS, 5, 1, {search, search_s, NULL, NULL}},
+    {"with either, room all, ms", MS, &pairs[3 * PAIRS], PAIRS, 5, 1, {search, search_s, NULL, NULL}},
+    {"with either, 5 hard pairs, ms", MS, hard_pairs, HARD_PAIRS, 100, 1, {search, search_s, NULL, NULL}},
     {"one change (receive), us", US, random_classes, SHEETS, 10, 100, {receive, receive_s, receive_p, NULL}},
     {"total, us", US, random_classes, SHEETS, 10, 100, {total, total_s, total_p, NULL}},
     {"class size, us", US, random_classes, SHEETS, 10, 100, {size, size_s, size_p, NULL}},
@@ -276,22 +299,24 @@ static int measure(const struct row *r)
 static void boxes_laid(const char *name, const struct form *f, int n)
 {
     uint64_t sum = 0, most = 0;
-    uint32_t class = 0;
+    const struct form *worst = f;
     for (int i = 0; i < n; i++) {
         uint8_t out[VAULT_LIST_SIZE];
         uint64_t laid = 0;
         plain_shortest(5, f[i].class, f[i].room, out, &laid);
         sum += laid;
-        class = laid > most ? f[i].class : class;
+        worst = laid > most ? &f[i] : worst;
         most = laid > most ? laid : most;
     }
-    printf("boxes laid by the search, %s: %.0f on average, %llu at most (class %08x)\n", name, (double)sum / n, (unsigned long long)most, class);
+    printf("boxes laid by the search, %s: %.0f on average, %llu at most (class %08x, room %08x)\n", name, (double)sum / n, (unsigned long long)most,
+           worst->class, worst->room);
 }
 
 int main(void)
 {
     int wrong = 0;
-    make_all();
+    make_classes();
+    make_pairs();
     make_lists();
     if (!make_texts()) {
         fprintf(stderr, "no memory\n");
@@ -306,6 +331,7 @@ int main(void)
         wrong += measure(&rows[i]);
     boxes_laid("random classes", random_classes, CLASSES);
     boxes_laid("hard classes", hard, HARD);
-    boxes_laid("pairs", pairs, PAIRS);
+    boxes_laid("random pairs with either", pairs, ROOMS * PAIRS);
+    boxes_laid("hard pairs with either", hard_pairs, HARD_PAIRS);
     return wrong != 0;
 }

@@ -5,10 +5,10 @@ use Rattle.weights.proofs.start.Statement.{statement}
 use Rattle.weights.proofs.start.Tie as tie
 
 abbrev Inv-loop : tie.InvT-loop
-Inv-loop need seed amount inverse₀ x₀ y₀ one₀ u₀ c₀ inverse x y one u c = c ≤ 32
+Inv-loop need inverse₀ x₀ y₀ one₀ c₀ inverse x y one c = c ≤ 32
 
 abbrev μ-loop : tie.MeasureT-loop
-μ-loop need seed amount inverse₀ x₀ y₀ one₀ u₀ c₀ inverse x y one u c = 32 - c
+μ-loop need inverse₀ x₀ y₀ one₀ c₀ inverse x y one c = 32 - c
 
 pub start-spec : {M : Type 1} → statement M
 start-spec = tie.close (tie.spec
