@@ -5,6 +5,7 @@ use native.Mathlib.Omega.{arith}
 use borrow.Author.Tests.{eq-eqb, ne-eqb}
 use Rattle.ground.proofs.Cases.{if, same-or}
 use Rattle.dates.specs.declared.date.Date.{Date}
+use Rattle.sheet.specs.Record.{Record}
 use Rattle.sheet.specs.declared.Call.{Call}
 use Rattle.histories.specs.Histories.{numberOf, accepted, after}
 use Rattle.bookings.specs.Bookings.{Booking, undated, on, History, recordNow, lastDate, dateOk, bookingNumber, withBooking, afterBooking}
@@ -40,6 +41,14 @@ record-undated h c =
     ∙ sym (ap (λ (t : Bool). cond t (accepted (recordNow h) c) (recordNow h)) (eq-eqb (numberOf (recordNow h) c) 0 z)))
     (λ n. ap recordNow (not-booked h (undated c) n)
     ∙ sym (ap (λ (t : Bool). cond t (accepted (recordNow h) c) (recordNow h)) (ne-eqb (numberOf (recordNow h) c) 0 n)))
+
+-- and one on a day: a refused one leaves the record
+pub record-on : (h : History) (d : Date) (c : Call) (P : Record → Type 0) → P (recordNow h) → P (after (recordNow h) c) → P (recordNow (afterBooking h (on d c)))
+record-on h d c P before then =
+    same-or (bookingNumber h (on d c)) 0
+    (λ z. subst P (sym (ap recordNow (booked h (on d c) z) ∙ record-more h (on d c)
+    ∙ sym (ap (λ (t : Bool). cond t (accepted (recordNow h) c) (recordNow h)) (eq-eqb (numberOf (recordNow h) c) 0 (on-ok h d c z .1))))) then)
+    (λ n. subst (λ (x : History). P (recordNow x)) (sym (not-booked h (on d c) n)) before)
 
 pub last-after-undated : (h : History) (c : Call) → lastDate (afterBooking h (undated c)) ≡ lastDate h
 last-after-undated h c =

@@ -7,7 +7,7 @@ use lib.ListN.{length, replicate}
 use borrow.Author.Tests.{eq-eqb}
 use Rattle.sheet.specs.Record.{Record}
 use Rattle.sheet.specs.declared.Call.{Call}
-use Rattle.sheet.specs.declared.Call.the-variants.{Enter, Leave, Receive, Withdraw}
+use Rattle.sheet.specs.declared.Call.the-variants.{Change, Receive, Withdraw}
 use Rattle.histories.specs.Histories.{Good, numberOf, accepted, after, afterAll, numbersOf}
 use Rattle.histories.proofs.Goods.{good-accepted}
 use Rattle.bookings.specs.Months.{Accepts, none, call}
@@ -48,7 +48,6 @@ accepts-numbers {r} (call {k = k} {ks = ks} e a) =
 pub marks-after : (r : Record) (ks : List Call) → afterAll accepted r ks .marks ≡ r .marks
 unfolding afterAll
 marks-after r [] = refl
-marks-after r (Enter c ∷ ks) = marks-after (accepted r (Enter c)) ks
-marks-after r (Leave c ∷ ks) = marks-after (accepted r (Leave c)) ks
+marks-after r (Change to c ∷ ks) = marks-after (accepted r (Change to c)) ks
 marks-after r (Receive c d ∷ ks) = marks-after (accepted r (Receive c d)) ks
 marks-after r (Withdraw c d ∷ ks) = marks-after (accepted r (Withdraw c d)) ks

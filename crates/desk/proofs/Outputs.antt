@@ -7,10 +7,11 @@ use Rattle.ground.proofs.Cases.{if, same-or}
 use Rattle.lists.proofs.First.{unique}
 use Rattle.lists.proofs.Model.{found}
 use Rattle.sheet.specs.Limits.{mostMarks, marksOk}
-use Rattle.sheet.specs.Record.{Record, opened}
+use Rattle.sheet.specs.Record.{Record, inClass, notOut, opened}
+use Rattle.sheet.proofs.Told.{in-not-out}
 use Rattle.sheet.specs.declared.Call.{Call}
 use Rattle.histories.specs.Histories.{Good, numberOf, after}
-use Rattle.histories.proofs.Goods.{good-after, good-opened}
+use Rattle.histories.proofs.Goods.{good-after, good-opened, good-small}
 use Rattle.machine.specs.Rows.{Row}
 use Rattle.machine.specs.Machine.{refusal, spoken}
 use Rattle.machine.specs.Answers.{OneAnswer, SomeAnswer}
@@ -79,7 +80,7 @@ one-answer = record { step = step-one; stop = stop-one }
 
 result : (r : Record) → Good r → (text : List ℕ) × Result r text
 result r good =
-    let l = found (r .marks) (r .class) (r .class) (good .class) (λ c e. e) in
+    let l = found (r .marks) (inClass r) (notOut r) (good-small good) (in-not-out r) in
     (page r (l .0), record { list = l .0; first = l .2; is = refl })
 
 pub good-one : Good (opened 1)

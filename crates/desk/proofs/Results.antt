@@ -16,7 +16,7 @@ use Rattle.boxes.proofs.Sums.{sum-le}
 use Rattle.lists.proofs.Exist.{at-most}
 use Rattle.tables.specs.Tables.{entry}
 use Rattle.sheet.specs.Limits.{mostMarks, entries}
-use Rattle.sheet.specs.Record.{Record, sheetOf}
+use Rattle.sheet.specs.Record.{Record, inClass, held-seconds, sheetOf}
 use Rattle.sheet.specs.Sound.{sizeOf}
 use Rattle.sheet.specs.Calls.{ClassSize}
 use Rattle.sheet.specs.declared.Sheet.{Sheet}
@@ -25,7 +25,8 @@ use Rattle.sheet.proofs.Opening.{combinations-fit}
 use Rattle.sheet.proofs.Tests.{boxes-fit, marks-most}
 use Rattle.listing.specs.Listing.{taken, totalOf, Listed, Totalled}
 use Rattle.histories.specs.Histories.{Good, Given}
-use Rattle.histories.proofs.Afresh.{held-afresh, size-afresh, total-afresh, list-afresh}
+use Rattle.histories.proofs.Afresh.{kept-afresh, size-afresh, total-afresh, list-afresh}
+use Rattle.histories.proofs.Goods.{good-small}
 use Rattle.machine.proofs.Laid.{wrote-three}
 use Rattle.desk.specs.Prints.{heads, boxLines, lastLine, page}
 use Rattle.desk.specs.Parts.{OfRecord, Printed, HaveEntries, lineRoom, resultRoom}
@@ -49,7 +50,7 @@ module _ {r : Record} (good : Good r) where
     count = ap (λ (x : Value). x .value) (g .value)
 
     count-small : v .value ≤ 32
-    count-small = omega (arith, count, at-most (r .marks) (good .class) (g .right), combinations-fit (r .marks) marks-small)
+    count-small = omega (arith, count, at-most (r .marks) (good-small good) (g .right), combinations-fit (r .marks) marks-small)
 
     pub count-inside : v .value ≤ length later
     count-inside = omega (arith, count, ap length (g .stands), length-append (g .list) (drop (length (g .list)) area))
@@ -74,7 +75,7 @@ module _ {r : Record} {sheet : Sheet} (of : OfRecord sheet r) where
       list-afresh r (of .good) area v later (omega (arith, combinations-fit (r .marks) (marks-small (of .good))))
       (subst (λ (s : Sheet). Listed mostMarks s area v later) (of .is) l)
 
-  size-told : {v : Value} → ClassSize mostMarks sheet v → v ≡ record { number = 0; value = sizeOf (r .marks) (r .class) }
+  size-told : {v : Value} → ClassSize mostMarks sheet v → v ≡ record { number = 0; value = sizeOf (r .marks) (inClass r) }
   size-told {v} w = size-afresh r (of .good) v (subst (λ (s : Sheet). ClassSize mostMarks s v) (of .is) w)
 
   total-told : {v : Value} → Totalled mostMarks sheet v → v ≡ record { number = 0; value = totalOf r }
@@ -91,7 +92,7 @@ module _ {r : Record} {sheet : Sheet} (of : OfRecord sheet r) where
 
   size-small : {v : Value} → ClassSize mostMarks sheet v → v .value < 2 ^ 64
   size-small w =
-      omega (arith, ap (λ (x : Value). x .value) (size-told w), ones-le (2 ^ r .marks) (r .class), combinations-fit (r .marks) (marks-small (of .good)))
+      omega (arith, ap (λ (x : Value). x .value) (size-told w), ones-le (2 ^ r .marks) (inClass r), combinations-fit (r .marks) (marks-small (of .good)))
 
   total-small : {v : Value} → Totalled mostMarks sheet v → v .value < 2 ^ 64
   total-small w =
@@ -99,7 +100,7 @@ module _ {r : Record} {sheet : Sheet} (of : OfRecord sheet r) where
         arith,
         ap (λ (x : Value). x .value) (total-told w),
         of .good .times,
-        sum-le (2 ^ r .marks) (taken (r .class) (r .times)) (r .times) (λ c l. taken-le (r .class) (r .times) c),
+        sum-le (2 ^ r .marks) (taken (inClass r) (r .times)) (r .times) (λ c l. taken-le (inClass r) (r .times) c),
       )
 
   module _ {area later : List ℕ} {v size : Value} (g : Given r area v later) (sized : ClassSize mostMarks sheet size) where
@@ -124,7 +125,8 @@ module _ {r : Record} {sheet : Sheet} (of : OfRecord sheet r) where
           let lines =
           ap (λ (s : Sheet). boxLines (s .marks) (entry (s .held)) (take (v .value) later)) (of .is)
           ∙ ap (boxLines (r .marks) (entry (sheetOf entries r .held))) (front (of .good) g)
-          ∙ lines-same (r .marks) (entry (sheetOf entries r .held)) (λ x. sumIn (r .marks) x (r .times)) (g .list) (g .right .fits .boxes) (held-afresh r (of .good)) in
+          ∙ lines-same (r .marks) (entry (sheetOf entries r .held)) (λ x. sumIn (r .marks) x (r .times)) (g .list) (g .right .fits .boxes)
+          (λ b l. kept-afresh r (of .good) held-seconds b (omega (arith, boxes-fit (r .marks) (of .good .marks)))) in
           let last = last-length (total .value) (total-small totalled) in
           let small = count-small (of .good) g in
           let long = front-long (of .good) g in
@@ -137,7 +139,7 @@ module _ {r : Record} {sheet : Sheet} (of : OfRecord sheet r) where
                   is =
                       ap₂ (λ (x : ℕ) (y : ℕ). heads x y ++ boxLines (sheet .marks) (entry (sheet .held)) (take (v .value) later) ++ lastLine (total .value))
                       (ap (λ (x : Value). x .value) (size-told sized)) (count (of .good) g)
-                      ∙ ap₂ (λ (x : List ℕ) (y : ℕ). heads (sizeOf (r .marks) (r .class)) (length (g .list)) ++ x ++ lastLine y) lines
+                      ∙ ap₂ (λ (x : List ℕ) (y : ℕ). heads (sizeOf (r .marks) (inClass r)) (length (g .list)) ++ x ++ lastLine y) lines
                       (ap (λ (x : Value). x .value) (total-told totalled));
                 };
             wrote = wrote-three p q t (omega (arith, p .place, q .place, t .place, heads-short));

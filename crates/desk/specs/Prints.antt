@@ -1,6 +1,6 @@
 -- What a desk session prints (01, 'Desk program'): which output bytes belong to which input bytes. It is told line by line: what a line leads to and
 -- prints at once (`Step`), and what the end of the input prints (`Stop`); machine/specs/Machine puts these together. Calls are made on the record of
--- marks, class and times; the printed list is the first shortest one.
+-- marks, standings and times; the printed list is the first shortest one.
 use Prim.Native.Nat.{ℕ}
 use mathlib.Core.Path.{_≡_}
 use mathlib.Core.Bool.{cond}
@@ -11,7 +11,7 @@ use Rattle.lists.specs.Lists.{FirstShortest}
 use Rattle.ground.specs.Texts.{ascii}
 use Rattle.print.specs.Texts.{decimal, clock, pattern}
 use Rattle.sheet.specs.Limits.{mostMarks, marksOk}
-use Rattle.sheet.specs.Record.{Record, opened}
+use Rattle.sheet.specs.Record.{Record, opened, inClass, notOut}
 use Rattle.sheet.specs.Sound.{sizeOf}
 use Rattle.sheet.specs.declared.Call.{Call}
 use Rattle.listing.specs.Listing.{totalOf}
@@ -45,12 +45,12 @@ lastLine seconds = ascii "total " ++ clock seconds ++ ascii "\n"
 -- class size, number of lines, each line's pattern and time, class total: a line's time is the sum over its box, the total the sum over the class
 unfoldable pub page : Record → List ℕ → List ℕ
 page r list =
-    heads (sizeOf (r .marks) (r .class)) (length list) ++ boxLines (r .marks) (λ b. sumIn (r .marks) b (r .times)) list ++ lastLine (totalOf r)
+    heads (sizeOf (r .marks) (inClass r)) (length list) ++ boxLines (r .marks) (λ b. sumIn (r .marks) b (r .times)) list ++ lastLine (totalOf r)
 
 -- the result: the page of the first shortest list of the class
 pub record Result (r : Record) (text : List ℕ) : Type 0 where
   pub list : List ℕ
-  pub first : FirstShortest (r .marks) (r .class) (r .class) list
+  pub first : FirstShortest (r .marks) (inClass r) (notOut r) list
   pub is : text ≡ page r list
 
 -- lines

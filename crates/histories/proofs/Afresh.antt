@@ -23,19 +23,16 @@ use Rattle.sheet.specs.declared.Value.{Value}
 use Rattle.sheet.proofs.Kept.{class-sound, standing-told, times-sound}
 use Rattle.sheet.proofs.Keeps.{class-of-ready}
 use Rattle.sheet.proofs.Tests.{boxes-fit}
+use Rattle.sheet.proofs.Told.{in-not-out}
 use Rattle.listing.specs.Listing.{totalOf, Searched, Listed, Totalled}
 use Rattle.listing.proofs.Finds.{search-finds}
 use Rattle.histories.specs.Histories.{Good, Given}
+use Rattle.histories.proofs.Goods.{good-small}
 
 is-out : (s : Standing) → isOut s ≡ true → s ≡ Out
 is-out In e = clash e refl
 is-out Out e = refl
 is-out Either e = clash e refl
-
-in-not-out : (s : Standing) → isIn s ≡ true → isOut s ≡ false
-in-not-out In e = refl
-in-not-out Out e = clash e refl
-in-not-out Either e = clash e refl
 
 module _ (r : Record) (good : Good r) where
   room : 3 ^ r .marks ≤ entries
@@ -87,7 +84,7 @@ module _ (r : Record) (good : Good r) where
 
   given-afresh : (area : List ℕ) (v : Value) (later : List ℕ) → Searched (r .marks) (inClass r) (notOut r) area v later → Given r area v later
   given-afresh area v later found =
-      let f = search-finds (λ c e. good .standing c (in-not-out (r .standing c) e)) (λ c e. ap not (in-not-out (r .standing c) e)) found in
+      let f = search-finds (good-small good) (in-not-out r) found in
       record { list = f .list; right = f .right; value = f .answer; stands = f .stands }
 
   pub list-afresh : (area : List ℕ) (v : Value) (later : List ℕ) → 2 ^ r .marks ≤ length area → Listed mostMarks (sheetOf entries r) area v later → Given r area v later

@@ -4,15 +4,17 @@ use mathlib.Core.Path.{_≡_, refl, sym, _∙_, ap, subst}
 use mathlib.Core.Bool.{Bool, true, false, cond, _&&_}
 use native.Mathlib.Omega.{arith}
 use lib.Dec.{eqb, ltb}
-use borrow.Author.Tests.{leb-true, ltb-false, eq-eqb, ne-eqb}
+use borrow.Author.Tests.{leb-true, ltb-false, not-true, eq-eqb, ne-eqb}
 use Rattle.boxes.specs.Sums.{sum, only}
 use Rattle.ground.proofs.Cases.{clash, same-or}
 use Rattle.boxes.proofs.Sums.{sum-change, sum-le, sum-zero}
+use Rattle.lists.specs.Lists.{Small}
 use Rattle.sheet.specs.Limits.{mostMarks, mostHeld, marksOk, amountOk}
-use Rattle.sheet.specs.Record.{is, isOut, isEither, Record, updated, opened}
+use Rattle.sheet.specs.Record.{is, isOut, isEither, Record, inClass, updated, opened}
 use Rattle.sheet.specs.declared.Call.{Call}
 use Rattle.sheet.specs.declared.Call.the-variants.{Change, Receive, Withdraw}
 use Rattle.sheet.specs.declared.Standing.{Standing}
+use Rattle.sheet.proofs.Told.{in-not-out}
 use Rattle.histories.specs.Histories.{Good, numberOf, accepted, after}
 use Rattle.histories.proofs.Kept.{in-range, change-passed, receive-passed}
 
@@ -65,3 +67,7 @@ good-after r good k =
 -- a history begins with an opened sheet's record
 pub good-opened : (m : ℕ) → marksOk mostMarks m ≡ true → Good (opened m)
 good-opened m e = record { marks = e; standing = λ c w. clash refl w; times = omega (arith, sum-zero (2 ^ m)); apart = λ c w. refl }
+
+-- no number that is no combination is in its class
+pub good-small : {r : Record} → Good r → Small (r .marks) (inClass r)
+good-small {r} good c e = good .standing c (not-true (isOut (r .standing c)) (in-not-out r c e))
