@@ -1,8 +1,9 @@
 -- The form of a record is read as that record, with nothing at 2^m and above. A section goes by induction on the combinations scanned, whatever bytes
--- follow it: the run goes from the record that has of the section what is below n to that of what is below n + 1.
+-- follow it: the run goes from the record that has of the section what is below n to that of what is below n + 1. The sections go by induction on
+-- those that are due.
 use Prim.Native.Nat.{ℕ, zero, suc, _+_, _^_, _≤_, _<_}
-use mathlib.Core.Path.{_≡_, refl, sym, ap, _∙_, subst}
-use mathlib.Core.Bool.{Bool, true, false, cond}
+use mathlib.Core.Path.{_≡_, refl, sym, ap, ap₂, _∙_, subst, fun-ext}
+use mathlib.Core.Bool.{Bool, true, false, not, cond}
 use mathlib.Core.List.{List, [], _∷_, _++_, append-assoc}
 use native.Mathlib.Nat.{add-zero, zero-add, pow-le-pow-right}
 use native.Mathlib.Omega.{arith}
@@ -11,40 +12,113 @@ use lib.Dec.{ltb}
 use borrow.Author.Tests.{le-leb, lt-ltb, ltb-true, ltb-false}
 use Rattle.boxes.specs.Sums.{sum, only}
 use Rattle.boxes.proofs.Sums.{sum-change, sum-le, sum-term, only-le}
+use Rattle.ground.proofs.Cases.{if, clash, below-or, same-or}
 use Rattle.sheet.specs.Limits.{mostHeld}
-use Rattle.sheet.specs.Record.{Record, opened}
+use Rattle.sheet.specs.Record.{isIn, isEither, Record, opened, updated, withStanding, withTimes}
 use Rattle.sheet.specs.Sound.{sizeOf}
+use Rattle.sheet.specs.declared.Standing.{Standing}
+use Rattle.sheet.specs.declared.Standing.the-variants as standing
 use Rattle.sheet.proofs.Tests.{marks-most}
-use Rattle.stored.specs.Sections.{sections, bytesBehind, standsIn, numberBehind, heldIn, mayStand, updated, added}
-use Rattle.stored.specs.Fields.{marks, count as count-due, combination, behind, due, sectionsDue, entriesDue, judge, Outcome, good, Run, done, Reading}
-use Rattle.stored.specs.Form.{bytes, listed, entryOf, section, sectionsOf, form}
+use Rattle.stored.specs.Sections.{sections, bytesBehind, standsIn, numberBehind, takes, heldIn, mayStand, added}
+use Rattle.stored.specs.Fields.{marks, count as count-due, combination, behind, due, sectionsDue, entriesDue, judge, Outcome, good, Run, done, ReadingBy}
+use Rattle.stored.specs.Form.{bytes, listed, entryOf, section, sectionsOf, formBy}
+use Rattle.stored.specs.declared.Layout.{Layout}
+use Rattle.stored.specs.declared.Layout.the-variants.{First, Today}
 use Rattle.stored.specs.declared.Section.{Section}
-use Rattle.stored.specs.declared.Section.the-variants.{Class, Held}
-use Rattle.stored.proofs.UpTo.{upTo, upTo-none, upTo-low, upTo-high, upTo-next, upTo-skip, upTo-updated}
+use Rattle.stored.specs.declared.Section.the-variants.{Class, Either, Held}
+use Rattle.stored.proofs.UpTo.{upTo, upTo-none, upTo-low, upTo-high, upTo-next, upTo-skip, upTo-updated, updated-here, updated-other}
 use Rattle.stored.proofs.Runs.{goes}
 use Rattle.stored.proofs.Numbers.{number-front, drop-front, number-one, bytes-length}
 use Rattle.stored.proofs.Listed.{count, count-le}
-use Rattle.stored.proofs.IsForm.{Storable}
+use Rattle.stored.proofs.IsForm.{Storable, Tells}
 
--- q with what r has in the section below n
-abbrev below : Section → ℕ → Record → Record → Record
-below Class n r q = record { marks = q .marks; class = upTo false n (r .class); times = q .times }
-below Held n r q = record { marks = q .marks; class = q .class; times = upTo 0 n (r .times) }
+-- how far each section was read: its combinations below a number
+record Far : Type 0 where
+  class : ℕ
+  either : ℕ
+  held : ℕ
 
-below-marks : (s : Section) (n : ℕ) (r q : Record) → below s n r q .marks ≡ q .marks
-below-marks Class n r q = refl
-below-marks Held n r q = refl
+abbrev to : Section → ℕ → Far → Far
+to Class n p = record { class = n; either = p .either; held = p .held }
+to Either n p = record { class = p .class; either = n; held = p .held }
+to Held n p = record { class = p .class; either = p .either; held = n }
 
-below-skip : (s : Section) (n : ℕ) (r q : Record) → standsIn s r n ≡ false → below s n r q ≡ below s (suc n) r q
-below-skip Class n r q e = ap (λ (f : ℕ → Bool). record { marks = q .marks; class = f; times = q .times }) (upTo-skip false (r .class) n e)
-below-skip Held n r q e =
-    ap (λ (f : ℕ → ℕ). record { marks = q .marks; class = q .class; times = f }) (upTo-skip 0 (r .times) n (omega (arith, ltb-false 0 (r .times n) e)))
+-- hence how far the combinations of a standing
+abbrev reach : (class either : ℕ) → Standing → ℕ
+reach i e standing.In = i
+reach i e standing.Out = 0
+reach i e standing.Either = e
 
-below-added : (s : Section) (n : ℕ) (r q : Record) → standsIn s r n ≡ true → added s (below s n r q) n (numberBehind s r n) ≡ below s (suc n) r q
-below-added Class n r q e =
-    ap (λ (f : ℕ → Bool). record { marks = q .marks; class = f; times = q .times })
-    (ap (λ (v : Bool). updated n v (upTo false n (r .class))) (sym e) ∙ upTo-updated false (r .class) n)
-below-added Held n r q e = ap (λ (f : ℕ → ℕ). record { marks = q .marks; class = q .class; times = f }) (upTo-updated 0 (r .times) n)
+-- what was read of r
+abbrev having : Far → Record → Record
+having p r =
+    record { marks = r .marks; standing = λ c. upTo standing.Out (reach (p .class) (p .either) (r .standing c)) (r .standing) c; times = upTo 0 (p .held) (r .times) }
+
+-- the standings with one combination more: n where it stands in the section, and nothing else
+module _ (f : ℕ → Standing) (n c : ℕ) where
+  class-next : (e : ℕ) (v : Standing) → (isIn v ≡ true → c ≡ n → ⊥) → upTo standing.Out (reach n e v) f c ≡ upTo standing.Out (reach (suc n) e v) f c
+  class-next e standing.In h = upTo-next standing.Out f n c (h refl)
+  class-next e standing.Out h = refl
+  class-next e standing.Either h = refl
+
+  either-next : (i : ℕ) (v : Standing) → (isEither v ≡ true → c ≡ n → ⊥) → upTo standing.Out (reach i n v) f c ≡ upTo standing.Out (reach i (suc n) v) f c
+  either-next i standing.In h = refl
+  either-next i standing.Out h = refl
+  either-next i standing.Either h = upTo-next standing.Out f n c (h refl)
+
+  class-here : (e : ℕ) (v : Standing) → f c ≡ v → isIn v ≡ true → c ≡ n → standing.In ≡ upTo standing.Out (reach (suc n) e v) f c
+  class-here e standing.In k y q = sym (upTo-low standing.Out f (suc n) c (omega arith) ∙ k)
+  class-here e standing.Out k y q = clash y refl
+  class-here e standing.Either k y q = clash y refl
+
+  either-here : (i : ℕ) (v : Standing) → f c ≡ v → isEither v ≡ true → c ≡ n → standing.Either ≡ upTo standing.Out (reach i (suc n) v) f c
+  either-here i standing.In k y q = clash y refl
+  either-here i standing.Out k y q = clash y refl
+  either-here i standing.Either k y q = sym (upTo-low standing.Out f (suc n) c (omega arith) ∙ k)
+
+-- f with v at n is g, if g is v there and f elsewhere
+updated-is : {A : Type 0} (n : ℕ) (v : A) (f g : ℕ → A) → ((c : ℕ) → c ≡ n → v ≡ g c) → ((c : ℕ) → (c ≡ n → ⊥) → f c ≡ g c) → updated n v f ≡ g
+updated-is n v f g here other =
+    fun-ext (λ c. same-or c n (λ q. ap (updated n v f) q ∙ updated-here n v f ∙ here n refl ∙ ap g (sym q)) (λ o. updated-other n v f c o ∙ other c o))
+
+having-skip : (s : Section) (n : ℕ) (r : Record) (p : Far) → standsIn s r n ≡ false → having (to s n p) r ≡ having (to s (suc n) p) r
+having-skip Class n r p e =
+    ap (λ (f : ℕ → Standing). withStanding f (having p r))
+    (fun-ext (λ c. class-next (r .standing) n c (p .either) (r .standing c) (λ y q. clash (ap (λ (x : ℕ). isIn (r .standing x)) (sym q) ∙ y) e)))
+having-skip Either n r p e =
+    ap (λ (f : ℕ → Standing). withStanding f (having p r))
+    (fun-ext (λ c. either-next (r .standing) n c (p .class) (r .standing c) (λ y q. clash (ap (λ (x : ℕ). isEither (r .standing x)) (sym q) ∙ y) e)))
+having-skip Held n r p e = ap (λ (f : ℕ → ℕ). withTimes f (having p r)) (upTo-skip 0 (r .times) n (omega (arith, ltb-false 0 (r .times n) e)))
+
+having-added : (s : Section) (n : ℕ) (r : Record) (p : Far) → standsIn s r n ≡ true → added s (having (to s n p) r) n (numberBehind s r n) ≡ having (to s (suc n) p) r
+having-added Class n r p e =
+    ap (λ (f : ℕ → Standing). withStanding f (having p r))
+    (updated-is n standing.In _ _
+    (λ c q. class-here (r .standing) n c (p .either) (r .standing c) refl (ap (λ (x : ℕ). isIn (r .standing x)) q ∙ e) q)
+    (λ c o. class-next (r .standing) n c (p .either) (r .standing c) (λ y. o)))
+having-added Either n r p e =
+    ap (λ (f : ℕ → Standing). withStanding f (having p r))
+    (updated-is n standing.Either _ _
+    (λ c q. either-here (r .standing) n c (p .class) (r .standing c) refl (ap (λ (x : ℕ). isEither (r .standing x)) q ∙ e) q)
+    (λ c o. either-next (r .standing) n c (p .class) (r .standing c) (λ y. o)))
+having-added Held n r p e = ap (λ (f : ℕ → ℕ). withTimes f (having p r)) (upTo-updated 0 (r .times) n)
+
+-- the section takes the combination: it does not stand in the section that it may not stand in
+either-not-in : (v : Standing) → isEither v ≡ true → isIn v ≡ false
+either-not-in standing.In e = sym e
+either-not-in standing.Out e = refl
+either-not-in standing.Either e = refl
+
+not-shown : (test : Standing → Bool) (b : Bool) (v : Standing) → test v ≡ false → test standing.Out ≡ false → not (test (cond b v standing.Out)) ≡ true
+not-shown test true v e out = ap not e
+not-shown test false v e out = ap not out
+
+taken : {most : ℕ} (s : Section) (n : ℕ) (r : Record) (p : Far) → Storable most r → standsIn s r n ≡ true → takes s (having (to s n p) r) n ≡ true
+taken Class n r p st e = refl
+taken Either n r p st e = not-shown isIn (ltb n (reach (p .class) n (r .standing n))) (r .standing n) (either-not-in (r .standing n) e) refl
+taken Held n r p st e =
+    not-shown isEither (ltb n (reach (p .class) (p .either) (r .standing n))) (r .standing n)
+    (if (isEither (r .standing n)) (λ y. absurd (omega (arith, st .apart n y, ltb-true 0 (r .times n) e))) (λ z. z)) refl
 
 -- the seconds below n and those of n are at most all of them
 upTo-le : (f : ℕ → ℕ) (n x : ℕ) → upTo 0 n f x ≤ f x
@@ -57,44 +131,47 @@ below-held f N n h =
     omega (arith, grown, sum-le N (upTo 0 (suc n) f) f (λ y ly. upTo-le f (suc n) y))
 
 -- what is behind a combination may stand there, and fits its bytes
-may-stand : (s : Section) (n : ℕ) (r q : Record) → q .marks ≡ r .marks → n < 2 ^ r .marks → heldIn r ≤ mostHeld → standsIn s r n ≡ true
-    → mayStand s (heldIn (below s n r q)) (numberBehind s r n) ≡ true
-may-stand Class n r q em h most e = refl
-may-stand Held n r q em h most e =
+may-stand : (s : Section) (n : ℕ) (r : Record) (p : Far) → n < 2 ^ r .marks → heldIn r ≤ mostHeld → standsIn s r n ≡ true
+    → mayStand s (heldIn (having (to s n p) r)) (numberBehind s r n) ≡ true
+may-stand Class n r p h most e = refl
+may-stand Either n r p h most e = refl
+may-stand Held n r p h most e =
     let v = r .times n in
-    let so-far = sum (2 ^ q .marks) (upTo 0 n (r .times)) in
-    let fits : so-far + v ≤ mostHeld = omega (arith, below-held (r .times) (2 ^ r .marks) n h, ap (λ (m : ℕ). sum (2 ^ m) (upTo 0 n (r .times))) em) in
+    let so-far = sum (2 ^ r .marks) (upTo 0 n (r .times)) in
+    let fits : so-far + v ≤ mostHeld = omega (arith, below-held (r .times) (2 ^ r .marks) n h) in
     rw (le-leb 1 v (ltb-true 0 v e), le-leb (so-far + v) mostHeld fits)
 
 behind-fits : (s : Section) (n : ℕ) (r : Record) → n < 2 ^ r .marks → heldIn r ≤ mostHeld → numberBehind s r n < 256 ^ bytesBehind s
 behind-fits Class n r h most = omega arith
+behind-fits Either n r h most = omega arith
 behind-fits Held n r h most = omega (arith, sum-term (2 ^ r .marks) (r .times) n h)
 
 -- any section
-module _ (most : ℕ) (o : Outcome) (s : Section) (rest : List Section) (r q : Record) (em : q .marks ≡ r .marks) (held : heldIn r ≤ mostHeld) where
+module _ {most : ℕ} (o : Outcome) (s : Section) (rest : List Section) (r : Record) (p : Far) (st : Storable most r) where
   entry-back : (n k low at : ℕ) (l : List ℕ) → n < 2 ^ r .marks → low ≤ n → standsIn s r n ≡ true
-      → ((a : ℕ) → Run most (entriesDue s rest (below s (suc n) r q) k (n + 1)) a l o) → Run most (entriesDue s rest (below s n r q) (suc k) low) at (entryOf s r n ++ l) o
+      → ((a : ℕ) → Run most (entriesDue s rest (having (to s (suc n) p) r) k (n + 1)) a l o)
+      → Run most (entriesDue s rest (having (to s n p) r) (suc k) low) at (entryOf s r n ++ l) o
   unfolding judge
   entry-back n k low at l h hl e next =
-      let b = below s n r q in
+      let b = having (to s n p) r in
       let w = bytesBehind s in
       let x = numberBehind s r n in
-      let inside : n < 2 ^ b .marks = omega (arith, ap (λ (m : ℕ). 2 ^ m) (below-marks s n r q ∙ em)) in
       goes (combination s rest b k low) (n ∷ (bytes w x ++ l)) (due (behind s rest b k n)) (omega arith)
-      (rw (number-one n (bytes w x ++ l), le-leb low n hl, lt-ltb n (2 ^ b .marks) inside))
-      (goes (behind s rest b k n) (bytes w x ++ l) (entriesDue s rest (below s (suc n) r q) k (n + 1)) (omega (arith, length-append (bytes w x) l, bytes-length w x))
-      (rw (number-front w x l (behind-fits s n r h held), may-stand s n r q em h held e) (ap (λ (u : Record). entriesDue s rest u k (n + 1)) (below-added s n r q e)))
+      (rw (number-one n (bytes w x ++ l), le-leb low n hl, lt-ltb n (2 ^ r .marks) h, taken s n r p st e))
+      (goes (behind s rest b k n) (bytes w x ++ l) (entriesDue s rest (having (to s (suc n) p) r) k (n + 1)) (omega (arith, length-append (bytes w x) l, bytes-length w x))
+      (rw (number-front w x l (behind-fits s n r h (st .most-held)), may-stand s n r p h (st .most-held) e)
+      (ap (λ (u : Record). entriesDue s rest u k (n + 1)) (having-added s n r p e)))
       (rw (drop-front w x l) (next (at + 1 + w))))
 
-  turn : (n k : ℕ) (l : List ℕ) → n < 2 ^ r .marks → ((a low : ℕ) → low ≤ suc n → Run most (entriesDue s rest (below s (suc n) r q) k low) a l o) → (b : Bool)
-      → standsIn s r n ≡ b → (at low : ℕ) → low ≤ n → Run most (entriesDue s rest (below s n r q) (only b 1 + k) low) at (cond b (entryOf s r n) [] ++ l) o
+  turn : (n k : ℕ) (l : List ℕ) → n < 2 ^ r .marks → ((a low : ℕ) → low ≤ suc n → Run most (entriesDue s rest (having (to s (suc n) p) r) k low) a l o) → (b : Bool)
+      → standsIn s r n ≡ b → (at low : ℕ) → low ≤ n → Run most (entriesDue s rest (having (to s n p) r) (only b 1 + k) low) at (cond b (entryOf s r n) [] ++ l) o
   turn n k l h next true e at low hl =
       let one : 1 + k ≡ suc k = omega arith in
       rw one (entry-back n k low at l h hl e (λ a. next a (n + 1) (omega arith)))
-  turn n k l h next false e at low hl = rw (zero-add k, below-skip s n r q e) (next at low (omega arith))
+  turn n k l h next false e at low hl = rw (zero-add k, having-skip s n r p e) (next at low (omega arith))
 
-  entries-back : (n k : ℕ) (l : List ℕ) → n ≤ 2 ^ r .marks → ((a low : ℕ) → low ≤ n → Run most (entriesDue s rest (below s n r q) k low) a l o) → (at : ℕ)
-      → Run most (entriesDue s rest (below s 0 r q) (count (standsIn s r) n + k) 0) at (listed (standsIn s r) (entryOf s r) n ++ l) o
+  entries-back : (n k : ℕ) (l : List ℕ) → n ≤ 2 ^ r .marks → ((a low : ℕ) → low ≤ n → Run most (entriesDue s rest (having (to s n p) r) k low) a l o) → (at : ℕ)
+      → Run most (entriesDue s rest (having (to s 0 p) r) (count (standsIn s r) n + k) 0) at (listed (standsIn s r) (entryOf s r) n ++ l) o
   unfolding listed sum
   entries-back zero k l h next at = rw (zero-add k) (next at 0 (omega arith))
   entries-back (suc n) k l h next at =
@@ -103,39 +180,91 @@ module _ (most : ℕ) (o : Outcome) (s : Section) (rest : List Section) (r q : R
       let e : count (standsIn s r) n + only b 1 + k ≡ count (standsIn s r) n + (only b 1 + k) = omega arith in
       rw (e, append-assoc (listed (standsIn s r) (entryOf s r) n) (cond b (entryOf s r n) []) l) i
 
-  section-back : r .marks ≤ 15 → (l : List ℕ) → ((a : ℕ) → Run most (sectionsDue rest (below s (2 ^ r .marks) r q)) a l o) → (at : ℕ)
-      → Run most (sectionsDue (s ∷ rest) (below s 0 r q)) at (section s r ++ l) o
+  section-back : r .marks ≤ 15 → (l : List ℕ) → ((a : ℕ) → Run most (sectionsDue rest (having (to s (2 ^ r .marks) p) r)) a l o) → (at : ℕ)
+      → Run most (sectionsDue (s ∷ rest) (having (to s 0 p) r)) at (section s r ++ l) o
   unfolding judge
   section-back few l next at =
       let N = 2 ^ r .marks in
       let n = sizeOf (r .marks) (standsIn s r) in
       let list = listed (standsIn s r) (entryOf s r) N in
-      let b = below s 0 r q in
-      let inside : n ≤ 2 ^ b .marks = omega (arith, count-le (standsIn s r) N, ap (λ (m : ℕ). 2 ^ m) (below-marks s 0 r q ∙ em)) in
-      let small : n < 256 ^ 2 = omega (arith, count-le (standsIn s r) N, pow-le-pow-right {n = 2} (omega arith) {i = r .marks} {j = 15} few) in
+      let b = having (to s 0 p) r in
+      let inside : n ≤ N = count-le (standsIn s r) N in
+      let small : n < 256 ^ 2 = omega (arith, inside, pow-le-pow-right {n = 2} (omega arith) {i = r .marks} {j = 15} few) in
       let i = entries-back N 0 l (omega arith) (λ a low h. next a) (at + 2) in
       rw (append-assoc (bytes 2 n) list l)
       (goes (count-due s rest b) (bytes 2 n ++ (list ++ l)) (entriesDue s rest b n 0) (omega (arith, length-append (bytes 2 n) (list ++ l), bytes-length 2 n))
-      (rw (number-front 2 n (list ++ l) small, le-leb n (2 ^ b .marks) inside))
+      (rw (number-front 2 n (list ++ l) small, le-leb n N inside))
       (rw (drop-front 2 n (list ++ l)) (subst (λ (k : ℕ). Run most (entriesDue s rest b k 0) (at + 2) (list ++ l) o) (add-zero n) i)))
+
+-- any sections, none of which was read before
+abbrev through : ℕ → List Section → Far → Far
+through N [] p = p
+through N (s ∷ rest) p = through N rest (to s N p)
+
+abbrev Fresh : ℕ → List Section → Far → Type 0
+Fresh N [] p = Unit {0}
+Fresh N (s ∷ rest) p = (to s 0 p ≡ p) × Fresh N rest (to s N p)
+
+sections-back : {most : ℕ} (r : Record) → Storable most r → r .marks ≤ 15 → (rest : List Section) (p : Far) → Fresh (2 ^ r .marks) rest p → (at : ℕ)
+    → Run most (sectionsDue rest (having p r)) at (sectionsOf rest r) (good (having (through (2 ^ r .marks) rest p) r))
+sections-back r st few [] p f at = done
+sections-back {most} r st few (s ∷ rest) p f at =
+    let N = 2 ^ r .marks in
+    let o = good (having (through N rest (to s N p)) r) in
+    subst (λ (q : Far). Run most (sectionsDue (s ∷ rest) (having q r)) at (section s r ++ sectionsOf rest r) o) (f .0)
+    (section-back o s rest r p st few (sectionsOf rest r) (sections-back r st few rest (to s N p) (f .1)) at)
+
+-- before the first section nothing is read, and behind the last all that the layout tells
+
+abbrev nothing : Far
+nothing = record { class = 0; either = 0; held = 0 }
+
+fresh : (N : ℕ) (layout : Layout) → Fresh N (sections layout) nothing
+fresh N First = (refl, (refl, tt))
+fresh N Today = (refl, (refl, (refl, tt)))
+
+reach-none : (v : Standing) → reach 0 0 v ≡ 0
+reach-none standing.In = refl
+reach-none standing.Out = refl
+reach-none standing.Either = refl
+
+having-none : (r : Record) → having nothing r ≡ opened (r .marks)
+having-none r =
+    ap₂ (λ (f : ℕ → Standing) (g : ℕ → ℕ). record { marks = r .marks; standing = f; times = g })
+    (fun-ext (λ c. upTo-high standing.Out (r .standing) _ c (omega (arith, reach-none (r .standing c))))) (upTo-none 0 (r .times))
 
 -- the record without what is at 2^m and above
 abbrev pub cut : Record → Record
-cut r = record { marks = r .marks; class = upTo false (2 ^ r .marks) (r .class); times = upTo 0 (2 ^ r .marks) (r .times) }
+cut r = record { marks = r .marks; standing = upTo standing.Out (2 ^ r .marks) (r .standing); times = upTo 0 (2 ^ r .marks) (r .times) }
 
--- what is written of a record is read as it, without that
-pub reads-back : {most : ℕ} (r : Record) → most ≤ 15 → Storable most r → Reading most (form r) (good (cut r))
-unfolding judge form
-reads-back {most} r few st =
+upTo-out : (f : ℕ → Standing) (n c : ℕ) → f c ≡ standing.Out → upTo standing.Out n f c ≡ standing.Out
+upTo-out f n c e = below-or c n (λ l. upTo-low standing.Out f n c l ∙ e) (λ l. upTo-high standing.Out f n c l)
+
+reach-all : (f : ℕ → Standing) (N e c : ℕ) → e ≤ N → (v : Standing) → f c ≡ v → (isEither v ≡ true → c < N → e ≡ N)
+    → upTo standing.Out (reach N e v) f c ≡ upTo standing.Out N f c
+reach-all f N e c h standing.In k all = refl
+reach-all f N e c h standing.Out k all = upTo-out f 0 c k ∙ sym (upTo-out f N c k)
+reach-all f N e c h standing.Either k all =
+    below-or c N (λ l. ap (λ (x : ℕ). upTo standing.Out x f c) (all refl l))
+    (λ l. upTo-high standing.Out f e c (omega arith) ∙ sym (upTo-high standing.Out f N c l))
+
+having-all : (layout : Layout) (r : Record) → Tells layout r → having (through (2 ^ r .marks) (sections layout) nothing) r ≡ cut r
+having-all First r tells =
+    ap (λ (f : ℕ → Standing). withStanding f (cut r))
+    (fun-ext (λ c. reach-all (r .standing) (2 ^ r .marks) 0 c (omega arith) (r .standing c) refl
+    (λ y l. clash y (tells Either (λ e. omega arith, (λ e. omega arith, tt)) c l))))
+having-all Today r tells =
+    ap (λ (f : ℕ → Standing). withStanding f (cut r))
+    (fun-ext (λ c. reach-all (r .standing) (2 ^ r .marks) (2 ^ r .marks) c (omega arith) (r .standing c) refl (λ y l. refl)))
+
+-- what is written of a record that the layout tells is read as it, without that
+pub reads-back : {most : ℕ} (layout : Layout) (r : Record) → most ≤ 15 → Storable most r → Tells layout r → ReadingBy layout most (formBy layout r) (good (cut r))
+unfolding judge formBy
+reads-back {most} layout r few st tells =
     let m = r .marks in
-    let o = good (cut r) in
     let le : m ≤ 15 = omega (arith, marks-most most m (st .marks)) in
-    let q = below Class (2 ^ m) r (opened m) in
-    let start : opened m ≡ below Class 0 r (opened m) = ap (λ (f : ℕ → Bool). record { marks = m; class = f; times = λ c. 0 }) (sym (upTo-none false (r .class))) in
-    let middle : q ≡ below Held 0 r q = ap (λ (f : ℕ → ℕ). record { marks = m; class = q .class; times = f }) (sym (upTo-none 0 (r .times))) in
-    let held : (a : ℕ) → Run most (sectionsDue (Held ∷ []) q) a (section Held r ++ []) o =
-    λ a. subst (λ (u : Record). Run most (sectionsDue (Held ∷ []) u) a (section Held r ++ []) o) (sym middle)
-    (section-back most o Held [] r q refl (st .most-held) le [] (λ a₁. done) a) in
-    goes marks (form r) (sectionsDue sections (opened m)) (omega arith) (rw (number-one m (sectionsOf sections r), st .marks))
-    (subst (λ (u : Record). Run most (sectionsDue sections u) 1 (sectionsOf sections r) o) (sym start)
-    (section-back most o Class (Held ∷ []) r (opened m) refl (st .most-held) le (section Held r ++ []) held 1))
+    let all = sections-back r st le (sections layout) nothing (fresh (2 ^ m) layout) 1 in
+    let l = sectionsOf (sections layout) r in
+    goes (marks (sections layout)) (m ∷ l) (sectionsDue (sections layout) (opened m)) (omega arith) (rw (number-one m l, st .marks))
+    (subst (λ (u : Record). Run most (sectionsDue (sections layout) u) 1 l (good (cut r))) (having-none r)
+    (subst (λ (u : Record). Run most (sectionsDue (sections layout) (having nothing r)) 1 l (good u)) (having-all layout r tells) all))

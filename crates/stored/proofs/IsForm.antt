@@ -1,5 +1,6 @@
 -- What is read: its bytes are the form of the record that it is read as, so writing it gives the same bytes; and that record is one that a sheet can have.
--- A section goes by induction on how many combinations are left: what was listed so far with the bytes to come is the whole list.
+-- A section goes by induction on how many combinations are left: what was listed so far with the bytes to come is the whole list. The sections go by
+-- induction on those that are due, in their order.
 use Prim.Native.Nat.{ℕ, zero, suc, _+_, _^_, _≤_, _<_}
 use mathlib.Core.Path.{_≡_, refl, sym, ap, ap₂, _∙_, subst}
 use mathlib.Core.Bool.{Bool, true, false, _&&_}
@@ -8,31 +9,88 @@ use native.Mathlib.Nat.{add-zero, zero-add}
 use native.Mathlib.Omega.{arith}
 use lib.ListN.{take, drop}
 use lib.Dec.{leb, ltb}
-use borrow.Author.Tests.{leb-true, ltb-true, ltb-false}
+use borrow.Author.Tests.{leb-true, ltb-true}
 use Rattle.boxes.specs.Sums.{sum, only}
 use Rattle.boxes.proofs.Sums.{sum-ext, sum-zero}
-use Rattle.ground.proofs.Cases.{and-left, and-right}
+use Rattle.ground.proofs.Cases.{below-or, and-left, and-right}
 use Rattle.sheet.specs.Limits.{marksOk, mostHeld}
-use Rattle.sheet.specs.Record.{Record, opened}
-use Rattle.stored.specs.Sections.{sections, bytesBehind, standsIn, numberBehind, heldIn, mayStand, added}
-use Rattle.stored.specs.Fields.{Bytes, numberIn, behind, due, sectionsDue, entriesDue, judge, good, Run, Reading}
-use Rattle.stored.specs.Form.{bytes, listed, entryOf, section, form}
+use Rattle.sheet.specs.Record.{isEither, Record, opened}
+use Rattle.sheet.specs.declared.Standing.the-variants.{Out}
+use Rattle.stored.specs.Sections.{sections, bytesBehind, standsIn, numberBehind, takes, heldIn, mayStand, added}
+use Rattle.stored.specs.Fields.{Bytes, numberIn, behind, due, sectionsDue, entriesDue, judge, good, Run, ReadingBy}
+use Rattle.stored.specs.Form.{bytes, listed, entryOf, section, sectionsOf, formBy}
+use Rattle.stored.specs.declared.Layout.{Layout}
+use Rattle.stored.specs.declared.Layout.the-variants.{First, Today}
 use Rattle.stored.specs.declared.Section.{Section}
-use Rattle.stored.specs.declared.Section.the-variants.{Class, Held}
+use Rattle.stored.specs.declared.Section.the-variants.{Class, Either, Held}
 use Rattle.stored.proofs.Runs.{took, passed, ended}
 use Rattle.stored.proofs.Numbers.{bytes-drop, bytes-split, byte-split, number-below}
 use Rattle.stored.proofs.Listed.{count, listed-ext, listed-skip, count-skip, listed-take, count-take}
-use Rattle.stored.proofs.Sections.{OnlyIn, class-not-held, only-same, only-then, added-only, stands-here, stands-other, entry-here, entry-other, held-more, held-most}
+use Rattle.stored.proofs.Sections.{rank, Rising, rising, Misses, misses, opened-none, OnlyIn, only-same, only-then, added-only, added-other, stands-here, stands-other, entry-here, entry-other, held-more, held-most, still-apart}
 
--- a record that has a stored form
+-- a record that can be stored: an either combination holds nothing
 pub record Storable (most : ℕ) (r : Record) : Type 0 where
   pub marks : marksOk most (r .marks) ≡ true
   pub most-held : heldIn r ≤ mostHeld
+  pub apart : (c : ℕ) → isEither (r .standing c) ≡ true → r .times c ≡ 0
 
 -- with nothing at 2^m and above
 pub record Within (r : Record) : Type 0 where
-  pub class : (c : ℕ) → 2 ^ r .marks ≤ c → r .class c ≡ false
+  pub standing : (c : ℕ) → 2 ^ r .marks ≤ c → r .standing c ≡ Out
   pub times : (c : ℕ) → 2 ^ r .marks ≤ c → r .times c ≡ 0
+
+-- a layout tells the record: its combinations stand in no other section
+abbrev pub Tells : Layout → Record → Type 0
+Tells layout r = (u : Section) → Misses u (sections layout) → (c : ℕ) → c < 2 ^ r .marks → standsIn u r c ≡ false
+
+-- today's layout tells every record, and 01's each that has no either combination
+pub today-tells : (r : Record) → Tells Today r
+today-tells r Class miss c l = absurd (miss .0 refl)
+today-tells r Either miss c l = absurd (miss .1 .0 refl)
+today-tells r Held miss c l = absurd (miss .1 .1 .0 refl)
+
+pub first-tells : (r : Record) → ((c : ℕ) → c < 2 ^ r .marks → isEither (r .standing c) ≡ false) → Tells First r
+first-tells r none Class miss c l = absurd (miss .0 refl)
+first-tells r none Either miss c l = none c l
+first-tells r none Held miss c l = absurd (miss .1 .0 refl)
+
+-- what can be read before place k of the order: nothing of the sections from there on
+record Reached (most k : ℕ) (r : Record) : Type 0 where
+  storable : Storable most r
+  within : Within r
+  none : (u : Section) → k ≤ rank u → (c : ℕ) → standsIn u r c ≡ false
+
+opened-reached : {most : ℕ} (m : ℕ) → marksOk most m ≡ true → Reached most 0 (opened m)
+opened-reached m ok = record {
+  storable = record { marks = ok; most-held = omega (arith, sum-zero (2 ^ m)); apart = λ c e. refl };
+  within = record { standing = λ c l. refl; times = λ c l. refl };
+  none = λ u h c. opened-none m u c;
+}
+
+-- behind one more entry
+module _ {most : ℕ} (s : Section) (r : Record) (c x : ℕ) (g : Reached most (suc (rank s)) r) (low : c < 2 ^ r .marks) (taken : takes s r c ≡ true)
+    (may : mayStand s (heldIn r) x ≡ true) (small : x < 256 ^ bytesBehind s) (fresh : standsIn s r c ≡ false) where
+  entry-only : OnlyIn s r (added s r c x)
+  entry-only = added-only s r c x taken (λ v h. g .none v h c)
+
+  entry-reached : Reached most (suc (rank s)) (added s r c x)
+  entry-reached =
+      let e = entry-only .marks in
+      let beyond : (y : ℕ) → 2 ^ added s r c x .marks ≤ y → 2 ^ r .marks ≤ y = λ y l. omega (arith, ap (λ (m : ℕ). 2 ^ m) e) in
+      let other : (y : ℕ) → 2 ^ r .marks ≤ y → (added s r c x .standing y ≡ r .standing y) × (added s r c x .times y ≡ r .times y) =
+      λ y l. added-other s r c x y (λ q. omega arith) in
+      record {
+        storable = record {
+          marks = ap (marksOk most) e ∙ g .storable .marks;
+          most-held = omega (arith, held-most s (heldIn r) x may small (g .storable .most-held), held-more s r c x low fresh small);
+          apart = still-apart s r c x taken (λ v h. g .none v h c) (g .storable .apart);
+        };
+        within = record {
+          standing = λ y l. other y (beyond y l) .0 ∙ g .within .standing y (beyond y l);
+          times = λ y l. other y (beyond y l) .1 ∙ g .within .times y (beyond y l);
+        };
+        none = λ u h y. entry-only .same u (λ q. omega arith) y .0 ∙ g .none u h y;
+      }
 
 -- the entries of a section, `left` of them with the combinations from `low` on
 record EntriesGot (most : ℕ) (s : Section) (rest : List Section) (m : ℕ) (r q : Record) (left low : ℕ) (l : List ℕ) : Type 0 where
@@ -42,15 +100,15 @@ record EntriesGot (most : ℕ) (s : Section) (rest : List Section) (m : ℕ) (r 
   run : Run most (sectionsDue rest value) at tail (good q)
   tail-bytes : Bytes tail
   only : OnlyIn s r value
-  most-held : heldIn value ≤ mostHeld
-  above : (c : ℕ) → 2 ^ m ≤ c → standsIn s value c ≡ false
+  reached : Reached most (suc (rank s)) value
   list : listed (standsIn s r) (entryOf s r) low ++ l ≡ listed (standsIn s value) (entryOf s value) (2 ^ m) ++ tail
   many : count (standsIn s r) low + left ≡ count (standsIn s value) (2 ^ m)
 
 entries-got : {most : ℕ} {q : Record} (s : Section) (rest : List Section) (m left low at : ℕ) (r : Record) (l : List ℕ) → r .marks ≡ m → low ≤ 2 ^ m → Bytes l
-    → ((c : ℕ) → low ≤ c → standsIn s r c ≡ false) → heldIn r ≤ mostHeld → Run most (entriesDue s rest r left low) at l (good q) → EntriesGot most s rest m r q left low l
+    → ((c : ℕ) → low ≤ c → standsIn s r c ≡ false) → Reached most (suc (rank s)) r → Run most (entriesDue s rest r left low) at l (good q)
+    → EntriesGot most s rest m r q left low l
 unfolding judge
-entries-got s rest m zero low at r l em h b z k x =
+entries-got s rest m zero low at r l em h b z g x =
     record {
       value = r;
       at = at;
@@ -58,34 +116,34 @@ entries-got s rest m zero low at r l em h b z k x =
       run = x;
       tail-bytes = b;
       only = only-same s r;
-      most-held = k;
-      above = λ c lc. z c (omega arith);
+      reached = g;
       list = ap (λ (y : List ℕ). y ++ l) (sym (listed-skip (standsIn s r) (entryOf s r) low (2 ^ m) h z));
       many = add-zero _ ∙ sym (count-skip (standsIn s r) low (2 ^ m) h z);
     }
-entries-got s rest m (suc left) low at r l em h b z k x =
+entries-got s rest m (suc left) low at r l em h b z g x =
     let w = took x in
     let c = numberIn (take 1 l) in
-    let p = passed (leb low c && ltb c (2 ^ r .marks)) (due (behind s rest r left c)) 10 (w .1) in
+    let p = passed (leb low c && (ltb c (2 ^ r .marks) && takes s r c)) (due (behind s rest r left c)) 10 (w .1) in
     let u = took (p .1) in
     let n = bytesBehind s in
     let l₁ = drop 1 l in
     let v = numberIn (take n l₁) in
-    let g = passed (mayStand s (heldIn r) v) (entriesDue s rest (added s r c v) left (c + 1)) 10 (u .1) in
+    let f = passed (mayStand s (heldIn r) v) (entriesDue s rest (added s r c v) left (c + 1)) 10 (u .1) in
     let l₂ = drop n l₁ in
     let b₁ = bytes-drop 1 l b in
     let e = ap (λ (y : ℕ). 2 ^ y) em in
     let low-c : low ≤ c = leb-true low c (and-left _ _ (p .0)) in
-    let c-m : c < 2 ^ r .marks = ltb-true c (2 ^ r .marks) (and-right (leb low c) _ (p .0)) in
+    let judged = and-right (leb low c) _ (p .0) in
+    let c-m : c < 2 ^ r .marks = ltb-true c (2 ^ r .marks) (and-left _ _ judged) in
+    let taken = and-right (ltb c (2 ^ r .marks)) _ judged in
     let small = number-below n l₁ b₁ in
     let r₂ = added s r c v in
-    let fits = held-most s (heldIn r) v (g .0) small k in
-    let more = held-more s r c v c-m (z c low-c) small in
-    let i = entries-got s rest m left (c + 1) (at + 1 + n) r₂ l₂ (added-only s r c v .marks ∙ em) (omega arith) (bytes-drop n l₁ b₁)
-    (λ y ly. stands-other s r c v y (λ d. omega arith) ∙ z y (omega arith)) (omega arith) (g .1) in
+    let only = entry-only s r c v g c-m taken (f .0) small (z c low-c) in
+    let i = entries-got s rest m left (c + 1) (at + 1 + n) r₂ l₂ (only .marks ∙ em) (omega arith) (bytes-drop n l₁ b₁)
+    (λ y ly. stands-other s r c v y (λ d. omega arith) ∙ z y (omega arith)) (entry-reached s r c v g c-m taken (f .0) small (z c low-c)) (f .1) in
     let as-before : (y : ℕ) → y < c → standsIn s r₂ y ≡ standsIn s r y = λ y ly. stands-other s r c v y (λ d. omega arith) in
-    let takes = stands-here s r c (heldIn r) v (g .0) in
-    let grows = listed-take (standsIn s r) (standsIn s r₂) low c low-c z as-before takes (entryOf s r) (entryOf s r₂) (λ y ly. entry-other s r c v y (λ d. omega arith)) in
+    let here = stands-here s r c (heldIn r) v (f .0) in
+    let grows = listed-take (standsIn s r) (standsIn s r₂) low c low-c z as-before here (entryOf s r) (entryOf s r₂) (λ y ly. entry-other s r c v y (λ d. omega arith)) in
     let front = listed (standsIn s r) (entryOf s r) low in
     record {
       value = i .value;
@@ -93,15 +151,14 @@ entries-got s rest m (suc left) low at r l em h b z k x =
       tail = i .tail;
       run = i .run;
       tail-bytes = i .tail-bytes;
-      only = only-then (added-only s r c v) (i .only);
-      most-held = i .most-held;
-      above = i .above;
+      only = only-then only (i .only);
+      reached = i .reached;
       list =
           ap (λ (y : List ℕ). front ++ y) (byte-split l (w .0) ∙ ap (λ (y : List ℕ). c ∷ y) (bytes-split n l₁ (u .0) b₁))
           ∙ sym (append-assoc front (c ∷ bytes n v) l₂)
           ∙ ap (λ (y : List ℕ). y ++ l₂) (ap (λ (y : List ℕ). front ++ y) (sym (entry-here s r c v)) ∙ sym grows)
           ∙ i .list;
-      many = omega (arith, i .many, count-take (standsIn s r) (standsIn s r₂) low c low-c z as-before takes);
+      many = omega (arith, i .many, count-take (standsIn s r) (standsIn s r₂) low c low-c z as-before here);
     }
 
 -- a section, with its count in front
@@ -109,14 +166,15 @@ record SectionGot (most : ℕ) (s : Section) (rest : List Section) (r q : Record
   entries : EntriesGot most s rest (r .marks) r q (numberIn (take 2 l)) 0 (drop 2 l)
   split : l ≡ section s (entries .value) ++ entries .tail
 
-section-got : {most : ℕ} {q : Record} (s : Section) (rest : List Section) (at : ℕ) (r : Record) (l : List ℕ) → Bytes l
-    → ((c : ℕ) → standsIn s r c ≡ false) → heldIn r ≤ mostHeld → Run most (sectionsDue (s ∷ rest) r) at l (good q) → SectionGot most s rest r q l
+section-got : {most at : ℕ} {q : Record} (s : Section) (rest : List Section) (r : Record) (l : List ℕ) → Bytes l → Reached most (rank s) r
+    → Run most (sectionsDue (s ∷ rest) r) at l (good q) → SectionGot most s rest r q l
 unfolding judge listed sum
-section-got {most} {q} s rest at r l b z k x =
+section-got {most} {at} {q} s rest r l b g x =
     let w = took x in
     let n = numberIn (take 2 l) in
     let p = passed (leb n (2 ^ r .marks)) (entriesDue s rest r n 0) 10 (w .1) in
-    let i = entries-got s rest (r .marks) n 0 (at + 2) r (drop 2 l) refl (omega arith) (bytes-drop 2 l b) (λ c lc. z c) k (p .1) in
+    let behind-it : Reached most (suc (rank s)) r = record { storable = g .storable; within = g .within; none = λ u h c. g .none u (omega arith) c } in
+    let i = entries-got s rest (r .marks) n 0 (at + 2) r (drop 2 l) refl (omega arith) (bytes-drop 2 l b) (λ c lc. g .none s (omega arith) c) behind-it (p .1) in
     let v = i .value in
     let size = count (standsIn s v) (2 ^ r .marks) in
     let list = listed (standsIn s v) (entryOf s v) (2 ^ r .marks) in
@@ -136,39 +194,59 @@ section-same s r q e h k =
     (listed-ext (standsIn s r) (standsIn s q) (entryOf s r) (entryOf s q) (2 ^ r .marks) h (λ c l. ap (λ (x : ℕ). c ∷ bytes (bytesBehind s) x) (k c l)))
     ∙ ap (λ (m : ℕ). bytes 2 (count (standsIn s q) (2 ^ m)) ++ listed (standsIn s q) (entryOf s q) (2 ^ m)) e
 
--- all of it: t is the form of a record that a sheet can have
-pub record IsForm (most : ℕ) (t : List ℕ) (r : Record) : Type 0 where
+-- the sections that are due; of every other the record has what was read before
+record SectionsGot (most : ℕ) (rest : List Section) (r q : Record) (l : List ℕ) : Type 0 where
+  marks : q .marks ≡ r .marks
+  same : (u : Section) → Misses u rest → (c : ℕ) → (standsIn u q c ≡ standsIn u r c) × (numberBehind u q c ≡ numberBehind u r c)
+  storable : Storable most q
+  within : Within q
+  bytes : l ≡ sectionsOf rest q
+
+sections-got : {most k at : ℕ} {q : Record} (rest : List Section) (r : Record) (l : List ℕ) → Rising k rest → Bytes l → Reached most k r
+    → Run most (sectionsDue rest r) at l (good q) → SectionsGot most rest r q l
+sections-got {most} [] r l up b g x =
+    let e = ended x in
+    subst (λ (u : Record). SectionsGot most [] r u l) (e .1)
+    (record { marks = refl; same = λ u miss c. (refl, refl); storable = g .storable; within = g .within; bytes = e .0 })
+sections-got {most} {q = q} (s ∷ rest) r l up b g x =
+    let at-it : Reached most (rank s) r = record { storable = g .storable; within = g .within; none = λ u h c. g .none u (omega arith) c } in
+    let first = section-got s rest r l b at-it x in
+    let i = first .entries in
+    let v = i .value in
+    let others = sections-got rest v (i .tail) (up .1) (i .tail-bytes) (i .reached) (i .run) in
+    let kept = others .same s (misses s rest (up .1) (omega arith)) in
+    record {
+      marks = others .marks ∙ i .only .marks;
+      same = λ u miss c. (others .same u (miss .1) c .0 ∙ i .only .same u (miss .0) c .0, others .same u (miss .1) c .1 ∙ i .only .same u (miss .0) c .1);
+      storable = others .storable;
+      within = others .within;
+      bytes =
+          first .split
+          ∙ ap₂ (λ (y z : List ℕ). y ++ z) (section-same s v q (sym (others .marks)) (λ c h. sym (kept c .0)) (λ c h. sym (kept c .1))) (others .bytes);
+    }
+
+-- all of it: t is the form of a record that a sheet can have, and that the layout tells
+pub record IsForm (layout : Layout) (most : ℕ) (t : List ℕ) (r : Record) : Type 0 where
   pub storable : Storable most r
   pub within : Within r
-  pub bytes : t ≡ form r
+  pub told : Tells layout r
+  pub bytes : t ≡ formBy layout r
 
-pub is-form : {most : ℕ} {r : Record} (t : List ℕ) → Bytes t → Reading most t (good r) → IsForm most t r
-unfolding judge form
-is-form {most} {r} t b x =
+pub is-form : (layout : Layout) {most : ℕ} {r : Record} (t : List ℕ) → Bytes t → ReadingBy layout most t (good r) → IsForm layout most t r
+unfolding judge formBy
+is-form layout {most} {r} t b x =
     let w = took x in
     let m = numberIn (take 1 t) in
-    let ok = passed (marksOk most m) (sectionsDue sections (opened m)) 1 (w .1) in
-    let class = section-got Class (Held ∷ []) 1 (opened m) (drop 1 t) (bytes-drop 1 t b) (λ c. refl) (omega (arith, sum-zero (2 ^ m))) (ok .1) in
-    let i = class .entries in
-    let q = i .value in
-    let held = section-got Held [] (i .at) q (i .tail) (i .tail-bytes) (λ c. i .only .same Held (λ e. class-not-held (sym e)) c .0) (i .most-held) (i .run) in
-    let j = held .entries in
-    let v = j .value in
-    let last = ended (j .run) in
-    let em : v .marks ≡ m = j .only .marks ∙ i .only .marks in
-    let same : (c : ℕ) → v .class c ≡ q .class c = λ c. j .only .same Class class-not-held c .0 in
-    let e : t ≡ form v =
-    byte-split t (w .0)
-    ∙ ap₂ (λ (y : ℕ) (l : List ℕ). y ∷ l) (sym em)
-    (class .split
-    ∙ ap₂ (λ (y l : List ℕ). y ++ l) (section-same Class q v (sym (j .only .marks)) (λ c lc. sym (same c)) (λ c lc. refl))
-    (held .split ∙ ap (λ (l : List ℕ). section Held v ++ l) (last .0))) in
-    subst (λ (u : Record). IsForm most t u) (last .1)
-    (record {
-      storable = record { marks = ap (marksOk most) em ∙ ok .0; most-held = j .most-held };
-      within = record {
-        class = λ c lc. same c ∙ i .above c (omega (arith, ap (λ (y : ℕ). 2 ^ y) em));
-        times = λ c lc. omega (arith, ltb-false 0 (v .times c) (j .above c (omega (arith, ap (λ (y : ℕ). 2 ^ y) (j .only .marks)))));
-      };
-      bytes = e;
-    })
+    let ok = passed (marksOk most m) (sectionsDue (sections layout) (opened m)) 1 (w .1) in
+    let all = sections-got (sections layout) (opened m) (drop 1 t) (rising layout) (bytes-drop 1 t b) (opened-reached m (ok .0)) (ok .1) in
+    record {
+      storable = all .storable;
+      within = all .within;
+      told = λ u miss c l. all .same u miss c .0 ∙ opened-none m u c;
+      bytes = byte-split t (w .0) ∙ ap₂ (λ (y : ℕ) (l : List ℕ). y ∷ l) (sym (all .marks)) (all .bytes);
+    }
+
+-- 01's form tells of no either combination
+pub first-none : {most : ℕ} {t : List ℕ} {r : Record} → IsForm First most t r → (c : ℕ) → isEither (r .standing c) ≡ false
+first-none {r = r} f c =
+    below-or c (2 ^ r .marks) (λ l. f .told Either (λ e. omega arith, (λ e. omega arith, tt)) c l) (λ l. ap isEither (f .within .standing c l))

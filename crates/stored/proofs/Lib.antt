@@ -10,3 +10,4 @@ pub mod Back
 pub mod Trips
 pub mod Sample
 pub mod Agrees
+pub mod Thirds

@@ -8,14 +8,14 @@ use native.Mathlib.Omega.{arith}
 use lib.Dec.{leb, ltb}
 use Rattle.sheet.specs.Limits.{marksOk}
 use Rattle.sheet.specs.Record.{Record}
-use Rattle.stored.specs.Sections.{heldIn, mayStand, added}
-use Rattle.stored.specs.Fields.{Due, marks, count, combination, behind, Next, due, end, wrong, sectionsDue, entriesDue, judge, refused, Run, over, early, faulty, field, Reading}
+use Rattle.stored.specs.Sections.{takes, heldIn, mayStand, added}
+use Rattle.stored.specs.Fields.{Due, marks, count, combination, behind, Next, due, end, wrong, sectionsDue, entriesDue, judge, refused, Run, over, early, faulty, field}
 use Rattle.stored.specs.declared.Section.{Section}
 use Rattle.stored.proofs.Runs.{passed}
 
 -- the number that a fault there is answered with
 abbrev code : Next → ℕ
-code (due marks) = 1
+code (due (marks rest)) = 1
 code (due (count s rest r)) = 10
 code (due (combination s rest r left low)) = 10
 code (due (behind s rest r left c)) = 10
@@ -36,9 +36,9 @@ code-cond false s e = refl
 
 code-judge : (most : ℕ) (d : Due) (n : ℕ) → code (due d) ≡ 10 → code (judge most d n) ≡ 10
 unfolding judge
-code-judge most marks n e = absurd (omega arith)
+code-judge most (marks rest) n e = absurd (omega arith)
 code-judge most (count s rest r) n e = code-cond (leb n (2 ^ r .marks)) (entriesDue s rest r n 0) (code-entries s rest r n 0)
-code-judge most (combination s rest r left low) c e = code-cond (leb low c && ltb c (2 ^ r .marks)) (due (behind s rest r left c)) refl
+code-judge most (combination s rest r left low) c e = code-cond (leb low c && (ltb c (2 ^ r .marks) && takes s r c)) (due (behind s rest r left c)) refl
 code-judge most (behind s rest r left c) x e =
     code-cond (mayStand s (heldIn r) x) (entriesDue s rest (added s r c x) left (c + 1)) (code-entries s rest (added s r c x) left (c + 1))
 
@@ -52,12 +52,12 @@ marks-wrong : (b : Bool) (s : Next) {k : ℕ} → code s ≡ 10 → cond b s (wr
 marks-wrong true s e q = inr (ap code (sym q) ∙ e)
 marks-wrong false s e q = inl (ap code (sym q), refl)
 
--- the two numbers, and the place of 1
-pub refusals : {most k p : ℕ} {t : List ℕ} → Reading most t (refused k p) → ((k ≡ 1) × (p ≡ 0)) ⊎ (k ≡ 10)
+-- the two numbers, and the place of 1, whichever sections are due
+pub refusals : {rest : List Section} {most k p : ℕ} {t : List ℕ} → Run most (due (marks rest)) 0 t (refused k p) → ((k ≡ 1) × (p ≡ 0)) ⊎ (k ≡ 10)
 unfolding judge
 refusals (early h) = inr refl
-refusals {most} (faulty h q) = marks-wrong (marksOk most _) _ refl q
-refusals {most} (field h x) = inr (ten (passed (marksOk most _) _ 1 x .1) refl)
+refusals {rest} {most} (faulty h q) = marks-wrong (marksOk most _) _ (code-sections rest _) q
+refusals {rest} {most} (field h x) = inr (ten (passed (marksOk most _) _ 1 x .1) (code-sections rest _))
 
-pub never-done : {most k p : ℕ} {t : List ℕ} → Reading most t (refused k p) → k ≡ 0 → ⊥
+pub never-done : {rest : List Section} {most k p : ℕ} {t : List ℕ} → Run most (due (marks rest)) 0 t (refused k p) → k ≡ 0 → ⊥
 never-done x e = ⊎-elim (λ (w : (_ ≡ 1) × (_ ≡ 0)). omega (arith, w .0)) (λ (w : _ ≡ 10). omega (arith, w)) (refusals x)

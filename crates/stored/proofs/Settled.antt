@@ -6,15 +6,16 @@ use native.Mathlib.Omega.{arith}
 use Rattle.sheet.specs.declared.Sheet.{Sheet}
 use Rattle.sheet.specs.declared.Value.{Value}
 use Rattle.stored.specs.declared.Read.{Read}
-use Rattle.stored.specs.Fields.{Outcome}
-use Rattle.stored.specs.Answers.{readOf, ReadBy, Reads, Writes, spoiled, short, written}
+use Rattle.stored.specs.Fields.{Next, Outcome, Run}
+use Rattle.stored.specs.Answers.{readOf, ReadBy, Writes, spoiled, short, written}
 use Rattle.stored.proofs.Runs.{one}
 
 -- whichever way of reading: where it says one thing at most, one answer at most
 pub read-by-settled : {R : Outcome → Type 0} {n : ℕ} {a b : Read} → ((o u : Outcome) → R o → R u → o ≡ u) → ReadBy R n a → ReadBy R n b → a ≡ b
 read-by-settled {n = n} alone x y = x .is ∙ ap (readOf n) (alone (x .outcome) (y .outcome) (x .run) (y .run)) ∙ sym (y .is)
 
-pub reads-settled : {most n : ℕ} {t : List ℕ} {a b : Read} → Reads most n t a → Reads most n t b → a ≡ b
+-- by the stored form of any layout
+pub reads-settled : {most n at : ℕ} {s : Next} {t : List ℕ} {a b : Read} → ReadBy (Run most s at t) n a → ReadBy (Run most s at t) n b → a ≡ b
 reads-settled x y = read-by-settled (λ o u. one) x y
 
 pub writes-settled : {most : ℕ} {s : Sheet} {out later later′ : List ℕ} {v w : Value} → Writes most s out v later → Writes most s out w later′ → (v ≡ w) × (later ≡ later′)

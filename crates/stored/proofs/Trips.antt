@@ -1,65 +1,76 @@
 -- Both ways: a sound sheet that is written and read, and bytes that are read and written; what is read is sound.
 use Prim.Native.Nat.{ℕ, suc, _+_, _*_, _^_, _≤_, _<_}
 use mathlib.Core.Path.{_≡_, refl, sym, ap, ap₂, _∙_, subst}
-use mathlib.Core.Bool.{Bool, true, false}
+use mathlib.Core.Bool.{Bool, true, cond}
 use mathlib.Core.List.{List, [], _∷_, _++_}
 use native.Mathlib.Nat.{one-le-pow, pow-le-pow-right}
 use native.Mathlib.Omega.{arith}
-use lib.Dec.{ltb}
 use lib.ListN.{length, take, drop, length-append}
 use lib.Seq.{take-at}
-use borrow.Author.Tests.{le-leb}
+use borrow.Author.Tests.{le-leb, lt-ltb, le-ltb}
 use Rattle.boxes.specs.Boxes.{allFree}
-use Rattle.boxes.specs.Sums.{sum}
 use Rattle.boxes.proofs.Boxes.{sumIn-all}
 use Rattle.boxes.proofs.Sums.{sum-zero}
+use Rattle.ground.proofs.Cases.{clash, below-or, mark}
 use Rattle.tables.specs.Tables.{own}
 use Rattle.tables.proofs.Entries.{afresh-own}
-use Rattle.sheet.specs.Limits.{marksOk, mostHeld}
-use Rattle.sheet.specs.Record.{Record, sheetOf, opened, outOf}
-use Rattle.sheet.specs.Sound.{Ready, sizeOf, recordOf}
+use Rattle.sheet.specs.Limits.{marksOk}
+use Rattle.sheet.specs.Record.{isEither, outs, eithers, outside-counts, either-counts, Record, sheetOf, opened}
+use Rattle.sheet.specs.Sound.{Ready, sizeOf, ownIn, tells, toldBy, recordOf}
+use Rattle.sheet.specs.declared.Standing.the-variants as standing
 use Rattle.sheet.specs.declared.Sheet.{Sheet}
 use Rattle.sheet.specs.declared.Value.{Value}
 use Rattle.sheet.proofs.Tests.{marks-most}
 use Rattle.sheet.proofs.Opening.{sheet-same}
-use Rattle.sheet.proofs.Kept.{class-sound, class-told, times-sound}
+use Rattle.sheet.proofs.Kept.{class-sound, standing-told, times-sound}
 use Rattle.stored.specs.declared.Read.{Read}
-use Rattle.stored.specs.Fields.{Bytes, Outcome, good, refused, Reading}
-use Rattle.stored.specs.Sections.{bytesBehind, standsIn, numberBehind}
-use Rattle.stored.specs.Form.{bytes, entryOf, entriesOf, section, form}
+use Rattle.stored.specs.Fields.{Bytes, marks, due, Outcome, good, refused, Run}
+use Rattle.stored.specs.Sections.{sections, bytesBehind, standsIn, numberBehind}
+use Rattle.stored.specs.Form.{bytes, entryOf, entriesOf, section, sectionsOf, formBy, form}
+use Rattle.stored.specs.declared.Layout.{Layout}
+use Rattle.stored.specs.declared.Layout.the-variants.{Today}
 use Rattle.stored.specs.declared.Section.{Section}
-use Rattle.stored.specs.declared.Section.the-variants.{Class, Held}
-use Rattle.stored.specs.Answers.{readOf, ReadBy, Reads, Writes, spoiled, short, written}
+use Rattle.stored.specs.declared.Section.the-variants.{Class, Either, Held}
+use Rattle.stored.specs.Answers.{readOf, ReadBy, ReadsBy, Reads, Writes, spoiled, short, written}
 use Rattle.stored.proofs.UpTo.{upTo-low}
 use Rattle.stored.proofs.Runs.{one}
 use Rattle.stored.proofs.Refusals.{never-done}
 use Rattle.stored.proofs.Numbers.{bytes-length}
 use Rattle.stored.proofs.Listed.{listed-length}
-use Rattle.stored.proofs.IsForm.{Storable, section-same, is-form}
+use Rattle.stored.proofs.Sections.{stands-same}
+use Rattle.stored.proofs.IsForm.{Storable, section-same, today-tells, is-form}
 use Rattle.stored.proofs.Back.{cut, reads-back}
 
--- two records of the same marks with the same class and times below 2^m
+-- two records of the same marks with the same standings and times below 2^m
 pub record RecordsAgree (r q : Record) : Type 0 where
   pub marks : r .marks ≡ q .marks
-  pub class : (c : ℕ) → c < 2 ^ r .marks → r .class c ≡ q .class c
+  pub standing : (c : ℕ) → c < 2 ^ r .marks → r .standing c ≡ q .standing c
   pub times : (c : ℕ) → c < 2 ^ r .marks → r .times c ≡ q .times c
 
 -- the form depends on nothing else, and so does the sheet
+
+sections-same : {r q : Record} → RecordsAgree r q → (rest : List Section) → sectionsOf rest r ≡ sectionsOf rest q
+sections-same a [] = refl
+sections-same {r} {q} a (s ∷ rest) =
+    let same : (c : ℕ) → c < 2 ^ r .marks → (standsIn s r c ≡ standsIn s q c) × (numberBehind s r c ≡ numberBehind s q c) =
+    λ c l. stands-same s r q c (a .standing c l) (a .times c l) in
+    ap₂ (λ (x y : List ℕ). x ++ y) (section-same s r q (a .marks) (λ c l. same c l .0) (λ c l. same c l .1)) (sections-same a rest)
+
+pub form-by-same : (layout : Layout) {r q : Record} → RecordsAgree r q → formBy layout r ≡ formBy layout q
+unfolding formBy
+form-by-same layout a = ap₂ (λ (m : ℕ) (l : List ℕ). m ∷ l) (a .marks) (sections-same a (sections layout))
+
 pub form-same : {r q : Record} → RecordsAgree r q → form r ≡ form q
-unfolding form
-form-same {r} {q} a =
-    let class = section-same Class r q (a .marks) (a .class) (λ c l. refl) in
-    let held = section-same Held r q (a .marks) (λ c l. ap (ltb 0) (a .times c l)) (a .times) in
-    ap₂ (λ (m : ℕ) (l : List ℕ). m ∷ l) (a .marks) (ap₂ (λ (x y : List ℕ). x ++ (y ++ [])) class held)
+form-same a = form-by-same Today a
 
 pub sheet-agrees : (n : ℕ) {r q : Record} → RecordsAgree r q → sheetOf n r ≡ sheetOf n q
 sheet-agrees n {r} {q} a =
-    sheet-same n (r .marks) (outOf (r .class)) (outOf (q .class)) (r .times) (q .times) (λ c l. ap (λ (b : Bool). outOf (λ x. b) c) (a .class c l)) (a .times)
-    ∙ ap (λ (x : ℕ). sheetOf n (record { marks = x; class = q .class; times = q .times })) (a .marks)
+    sheet-same n (r .marks) _ _ _ _ (r .times) (q .times) (λ c l. ap outs (a .standing c l)) (λ c l. ap eithers (a .standing c l)) (a .times)
+    ∙ ap (λ (x : ℕ). sheetOf n (record { marks = x; standing = q .standing; times = q .times })) (a .marks)
 
 cut-agrees : (r : Record) → RecordsAgree (cut r) r
 cut-agrees r =
-    record { marks = refl; class = λ c l. upTo-low false (r .class) (2 ^ r .marks) c l; times = λ c l. upTo-low 0 (r .times) (2 ^ r .marks) c l }
+    record { marks = refl; standing = λ c l. upTo-low standing.Out (r .standing) (2 ^ r .marks) c l; times = λ c l. upTo-low 0 (r .times) (2 ^ r .marks) c l }
 
 -- how long a form is
 section-length : (s : Section) (r : Record) → length (section s r) ≡ 2 + sizeOf (r .marks) (standsIn s r) * suc (bytesBehind s)
@@ -72,16 +83,25 @@ section-length s r =
       listed-length (standsIn s r) (entryOf s r) (suc (bytesBehind s)) (2 ^ r .marks) (λ c. ap suc (bytes-length (bytesBehind s) (numberBehind s r c))),
     )
 
-pub form-length : (r : Record) → length (form r) ≡ 5 + sizeOf (r .marks) (standsIn Class r) + sizeOf (r .marks) (standsIn Held r) * 5
-unfolding form
+pub form-length : (r : Record) → length (form r) ≡ 7 + sizeOf (r .marks) (standsIn Class r) + sizeOf (r .marks) (standsIn Either r) + sizeOf (r .marks) (standsIn Held r) * 5
+unfolding formBy
 form-length r =
     omega (
       arith,
-      length-append (section Class r) (section Held r ++ []),
+      length-append (section Class r) (section Either r ++ (section Held r ++ [])),
+      length-append (section Either r) (section Held r ++ []),
       length-append (section Held r) [],
       section-length Class r,
+      section-length Either r,
       section-length Held r,
     )
+
+-- own numbers that tell a standing tell an either one only as it is
+either-told : (o e : ℕ) → o + e ≤ 1 → isEither (toldBy o e) ≡ true → tells standing.Either o e ≡ true
+either-told o e l =
+    mark (λ (x : ℕ). x + e ≤ 1 → isEither (toldBy x e) ≡ true → tells standing.Either x e ≡ true) o (omega arith)
+    (λ k. mark (λ (y : ℕ). isEither (toldBy 0 y) ≡ true → tells standing.Either 0 y ≡ true) e (omega arith) (λ q. q) (λ q. refl))
+    (λ k q. clash q refl) l
 
 -- tables long enough for every m
 module _ (most n : ℕ) (long : 3 ^ most ≤ n) where
@@ -93,13 +113,17 @@ module _ (most n : ℕ) (long : 3 ^ most ≤ n) where
   told-agrees r e =
       let m = r .marks in
       let fits = boxes-fit m e in
-      record { marks = refl; class = class-told n m fits (r .class); times = afresh-own n m (r .times) fits }
+      record {
+        marks = refl;
+        standing = λ c l. ap (λ (b : Bool). cond b (toldBy (ownIn outside-counts (sheetOf n r) c) (ownIn either-counts (sheetOf n r) c)) standing.Out) (lt-ltb c (2 ^ m) l) ∙ standing-told n m fits (r .standing) c l;
+        times = afresh-own n m (r .times) fits;
+      }
 
   sound : (r : Record) → Storable most r → Ready most (sheetOf n r)
   sound r s =
       let m = r .marks in
       let fits = boxes-fit m (s .marks) in
-      record { marks = s .marks; class = class-sound n m fits (r .class); times = times-sound n m fits (r .times) (s .most-held) }
+      record { marks = s .marks; class = class-sound n m fits (r .standing); times = times-sound n m fits (r .standing) (r .times) (s .most-held) (s .apart) }
 
   -- what is read is sound, whichever way of reading, if it says what can be stored; and so is what is given with a refusal
   pub read-by-sound : {R : Outcome → Type 0} {a : Read} → 1 ≤ most → ((r : Record) → R (good r) → Storable most r) → ReadBy R n a → Ready most (a .sheet)
@@ -108,46 +132,56 @@ module _ (most n : ℕ) (long : 3 ^ most ≤ n) where
     where
       by : (o : Outcome) → R o → Ready most (readOf n o .sheet)
       by (good r) y = sound r (storable r y)
-      by (refused k p) y = sound (opened 1) (record { marks = rw (le-leb 1 most h); most-held = omega (arith, sum-zero (2 ^ 1)) })
+      by (refused k p) y = sound (opened 1) (record { marks = rw (le-leb 1 most h); most-held = omega (arith, sum-zero (2 ^ 1)); apart = λ c e. refl })
 
-  pub read-sound : 1 ≤ most → (t : List ℕ) {a : Read} → Bytes t → Reads most n t a → Ready most (a .sheet)
-  read-sound h t b x = read-by-sound h (λ r y. is-form t b y .storable) x
+  pub read-sound : (layout : Layout) → 1 ≤ most → (t : List ℕ) {a : Read} → Bytes t → ReadsBy layout most n t a → Ready most (a .sheet)
+  read-sound layout h t b x = read-by-sound h (λ r y. is-form layout t b y .storable) x
 
   -- what is read as a record, or refused
-  pub read-good : {t : List ℕ} {a : Read} → Reads most n t a → a .number ≡ 0 → (r : Record) × Reading most t (good r) × (a ≡ readOf n (good r))
-  read-good {t} {a} x e = by (x .outcome) (x .run) (x .is)
+  pub read-good : {rest : List Section} {t : List ℕ} {a : Read} → ReadBy (Run most (due (marks rest)) 0 t) n a → a .number ≡ 0
+      → (r : Record) × Run most (due (marks rest)) 0 t (good r) × (a ≡ readOf n (good r))
+  read-good {rest} {t} {a} x e = by (x .outcome) (x .run) (x .is)
     where
-      by : (o : Outcome) → Reading most t o → a ≡ readOf n o → (r : Record) × Reading most t (good r) × (a ≡ readOf n (good r))
+      by : (o : Outcome) → Run most (due (marks rest)) 0 t o → a ≡ readOf n o → (r : Record) × Run most (due (marks rest)) 0 t (good r) × (a ≡ readOf n (good r))
       by (good r) y q = (r, y, q)
       by (refused k p) y q = absurd (never-done y (sym (ap (λ (z : Read). z .number) q) ∙ e))
 
   -- what a sound sheet tells has a form
+  told-apart : (s : Sheet) → Ready most s → (c : ℕ) → isEither (recordOf s .standing c) ≡ true → own (s .marks) (s .held) c ≡ 0
+  told-apart s f c e =
+      let told : Bool → Bool = λ b. isEither (cond b (toldBy (ownIn outside-counts s c) (ownIn either-counts s c)) standing.Out) in
+      below-or c (2 ^ s .marks)
+      (λ l. f .times .apart c l (either-told _ _ (f .class .tells c l) (sym (ap told (lt-ltb c (2 ^ s .marks) l)) ∙ e)))
+      (λ l. clash e (ap told (le-ltb c (2 ^ s .marks) l)))
+
   fit-storable : (s : Sheet) → Ready most s → Storable most (recordOf s)
   fit-storable s f =
       let m = s .marks in
       let p : 1 ≤ 3 ^ m = one-le-pow m 3 (omega arith) in
-      record { marks = f .marks; most-held = omega (arith, f .times .sums (allFree m) (omega arith), sumIn-all m (own m (s .held)), f .times .most) }
+      record {
+        marks = f .marks;
+        most-held = omega (arith, f .times .sums (allFree m) (omega arith), sumIn-all m (own m (s .held)), f .times .most);
+        apart = told-apart s f;
+      }
 
   -- reading what was written from a sound sheet gives its marks, class and times, with 0 in the entries at 3^m and above
   pub form-read : most ≤ 15 → (s : Sheet) → Ready most s → {a : Read} → Reads most n (form (recordOf s)) a → a ≡ readOf n (good (recordOf s))
   form-read few s f x =
       let r = recordOf s in
-      x .is ∙ ap (readOf n) (one (x .run) (reads-back r few (fit-storable s f)))
+      x .is ∙ ap (readOf n) (one (x .run) (reads-back Today r few (fit-storable s f) (today-tells r)))
       ∙ ap (λ (y : Sheet). record { number = 0; place = 0; sheet = y }) (sheet-agrees n (cut-agrees r))
 
   -- hence the very same sheet, where its tables are those worked out afresh from a record
-  pub form-same-sheet : most ≤ 15 → (r : Record) → marksOk most (r .marks) ≡ true → sum (2 ^ r .marks) (r .times) ≤ mostHeld → {a : Read}
-      → Reads most n (form (recordOf (sheetOf n r))) a → a ≡ readOf n (good r)
-  form-same-sheet few r e h x =
-      form-read few (sheetOf n r) (sound r (record { marks = e; most-held = h })) x
-      ∙ ap (λ (y : Sheet). record { number = 0; place = 0; sheet = y }) (sheet-agrees n (told-agrees r e))
+  pub form-same-sheet : most ≤ 15 → (r : Record) → Storable most r → {a : Read} → Reads most n (form (recordOf (sheetOf n r))) a → a ≡ readOf n (good r)
+  form-same-sheet few r s x =
+      form-read few (sheetOf n r) (sound r s) x ∙ ap (λ (y : Sheet). record { number = 0; place = 0; sheet = y }) (sheet-agrees n (told-agrees r (s .marks)))
 
   -- writing what was read gives the same bytes
   pub read-form : (t : List ℕ) {a : Read} → Bytes t → Reads most n t a → a .number ≡ 0 → form (recordOf (a .sheet)) ≡ t
   read-form t {a} b x e =
       let g = read-good x e in
       let r = g .0 in
-      let w = is-form t b (g .1) in
+      let w = is-form Today t b (g .1) in
       ap (λ (y : Read). form (recordOf (y .sheet))) (g .2) ∙ form-same (told-agrees r (w .storable .marks)) ∙ sym (w .bytes)
 
 -- done: the sheet is sound, and its form stands up to the value

@@ -6,7 +6,7 @@ use native.Mathlib.Omega.{arith}
 use lib.Dec.{ltb}
 use borrow.Author.Tests.{lt-ltb, le-ltb, eq-eqb, ne-eqb}
 use Rattle.ground.proofs.Cases.{below-or, same-or}
-use Rattle.stored.specs.Sections.{updated}
+use Rattle.sheet.specs.Record.{updated}
 
 module _ {A : Type 0} (c : ℕ) (v : A) (f : ℕ → A) where
   pub updated-here : updated c v f c ≡ v
@@ -14,6 +14,11 @@ module _ {A : Type 0} (c : ℕ) (v : A) (f : ℕ → A) where
 
   pub updated-other : (x : ℕ) → (x ≡ c → ⊥) → updated c v f x ≡ f x
   updated-other x n = ap (λ (b : Bool). cond b v (f x)) (ne-eqb x c n)
+
+-- what does not tell v from the value that it replaces tells no change
+pub updated-keeps : {A B : Type 0} (p : A → B) (c : ℕ) (v : A) (f : ℕ → A) → p v ≡ p (f c) → (x : ℕ) → p (updated c v f x) ≡ p (f x)
+updated-keeps p c v f e x =
+    same-or x c (λ q. ap (λ (y : ℕ). p (updated c v f y)) q ∙ ap p (updated-here c v f) ∙ e ∙ ap (λ (y : ℕ). p (f y)) (sym q)) (λ n. ap p (updated-other c v f x n))
 
 abbrev pub upTo : {A : Type 0} → A → ℕ → (ℕ → A) → ℕ → A
 upTo d n f x = cond (ltb x n) (f x) d
