@@ -8,13 +8,15 @@ use lib.ListN.{length}
 use borrow.Author.Tests.{lt-ltb, le-ltb}
 use Rattle.ground.proofs.Cases.{clash, below-or}
 use Rattle.sheet.specs.Limits.{mostMarks, entries}
-use Rattle.sheet.specs.Record.{Record, sheetOf}
+use Rattle.sheet.specs.Record.{isOut, Record, sheetOf}
 use Rattle.sheet.specs.Sound.{recordOf}
 use Rattle.sheet.specs.declared.Sheet.{Sheet}
 use Rattle.sheet.specs.declared.Answer.{Answer}
 use Rattle.sheet.specs.declared.Value.{Value}
 use Rattle.stored.specs.Answers.{Reads, Writes, spoiled, short, written}
-use Rattle.stored.specs.Fields.{Bytes, good, Reading}
+use Rattle.stored.specs.Fields.{Bytes, good, ReadingBy, Reading}
+use Rattle.stored.specs.declared.Layout.{Layout}
+use Rattle.stored.specs.declared.Layout.the-variants.{Today}
 use Rattle.stored.specs.Form.{form}
 use Rattle.stored.specs.declared.Read.{Read}
 use Rattle.stored.proofs.IsForm.{is-form}
@@ -70,20 +72,21 @@ lives-afresh r g l = from r g refl l
 
 -- any other sheet that is read begins its history with what was read
 
-pub good-read : {t : List ℕ} {r : Record} → Bytes t → Reading mostMarks t (good r) → Good r
-good-read {t} {r} b x =
-    let k = is-form t b x in
+pub good-read : (layout : Layout) {t : List ℕ} {r : Record} → Bytes t → ReadingBy layout mostMarks t (good r) → Good r
+good-read layout {t} {r} b x =
+    let k = is-form layout t b x in
     record {
       marks = k .storable .marks;
-      class = λ c e. below-or c (2 ^ r .marks) (λ l. l) (λ l. clash e (k .within .class c l));
+      standing = λ c e. below-or c (2 ^ r .marks) (λ l. l) (λ l. clash (ap isOut (k .within .standing c l)) e);
       times = k .storable .most-held;
+      apart = k .storable .apart;
     }
 
 pub begins : (t : List ℕ) {a : Read} → Bytes t → Reads mostMarks entries t a → a .number ≡ 0
     → (r : Record) × Reading mostMarks t (good r) × Good r × (a .sheet ≡ sheetOf entries r)
 begins t {a} b x z =
     let w = read-good 5 entries five x z in
-    (w .0, w .1, good-read b (w .1), ap (λ (y : Read). y .sheet) (w .2))
+    (w .0, w .1, good-read Today b (w .1), ap (λ (y : Read). y .sheet) (w .2))
 
 pub good-events : (r : Record) → Good r → (es : List Event) → Good (afterAll afterEvent r es)
 unfolding afterAll
