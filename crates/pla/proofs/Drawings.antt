@@ -315,12 +315,14 @@ unfolding covered
 drawn-class {most} {t} {r} p c =
     let d = text-draws p in
     subst (λ (x : Record). Decides (inClass x c) (Drawn (x .marks) c (linesOf t))) (sym (d .is))
-    (subst (λ (e : Bool). Decides e (Drawn _ c (linesOf t))) (sym (in-alone _))
+    (subst (λ (e : Bool). Decides e (Drawn (d .last .inputs) c (linesOf t))) (sym (in-alone (covered (d .last .inputs) (d .last .cubes) c)))
     (record { yes = λ e. ⊎-elim (λ w. clash w refl) (λ w. w) (d .only-these c e); sure = d .lines c }))
 
 -- and what is not in it is out
 pub drawn-plain : {most : ℕ} {t : List ℕ} {r : Record} → PlaSays most t (good r) → NoneEither r
-drawn-plain p c = ap (λ (x : Record). isEither (x .standing c)) (text-draws p .is) ∙ either-alone _
+drawn-plain p c =
+    let d = text-draws p in
+    ap (λ (x : Record). isEither (x .standing c)) (d .is) ∙ either-alone (covered (d .last .inputs) (d .last .cubes) c)
 
 -- so it has combinations alone
 drawn-below : {m c : ℕ} {ls : List (List ℕ)} → Drawn m c ls → c < 2 ^ m
@@ -330,5 +332,6 @@ drawn-below (later h d) = drawn-below d
 pub drawn-combination : {most : ℕ} {t : List ℕ} {r : Record} → PlaSays most t (good r) → (c : ℕ) → isOut (r .standing c) ≡ false → c < 2 ^ r .marks
 drawn-combination {r = r} p c e =
     let d = text-draws p in
-    let w = not-out-alone _ (sym (ap (λ (x : Record). isOut (x .standing c)) (d .is)) ∙ e) in
-    drawn-below (drawn-class p c .yes (ap (λ (x : Record). inClass x c) (d .is) ∙ in-alone _ ∙ w))
+    let drawn = covered (d .last .inputs) (d .last .cubes) c in
+    let w = not-out-alone drawn (sym (ap (λ (x : Record). isOut (x .standing c)) (d .is)) ∙ e) in
+    drawn-below (drawn-class p c .yes (ap (λ (x : Record). inClass x c) (d .is) ∙ in-alone drawn ∙ w))

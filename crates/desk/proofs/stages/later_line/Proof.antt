@@ -11,7 +11,12 @@ order-of-requires : tie.Need-order-of-requires
 order-of-requires c κs = let s = c .before in (s .pre .1 .0, omega (arith, sheet-marks (s .pre .0 .1)))
 
 returns : tie.Need-returns
-returns c = λ q of. let s = c .before .before .before .before .before .before .before .before .before .before .before .before in rw (c .led-to .ensures) (later-made of (c .before .before .before .before .before .before .before .before .before .before .order-of .ensures) (c .before .before .before .before .before .before .before .before .order .given .1) (c .before .before .before .before .before .before .did .ensures) (c .before .before .before .spoken .ensures) (spoken-short (s .args .line .number) (c .before .before .before .before .before .before .did .result .number) (c .before .before .before .spoken .ensures) (omega arith) (omega arith)))
+returns c q of =
+    let s = c .before .before .before .before .before .before .before .before .before .before .before .before in
+    let did = c .before .before .before .before .before .before .did in
+    rw (c .led-to .ensures)
+    (later-made of (c .before .before .before .before .before .before .before .before .before .before .order-of .ensures) (c .before .before .before .before .before .before .before .before .order .given .1) (did .ensures) (c .before .before .before .spoken .ensures)
+    (spoken-short (s .args .line .number) (did .result .number) (c .before .before .before .spoken .ensures) (omega arith) (omega (arith, did .ok .1))))
 
 returns-2 : tie.Need-returns-2
 returns-2 c = λ q of. rw (c .led-to2 .ensures) (later-unread of (c .before .before .before .before .before .before .before .order-of .ensures) (c .before .before .before .before .before .enum-told .given .1) (c .before .before .before .spoken2 .ensures) (spoken-short (c .before .before .before .before .before .before .before .before .before .args .line .number) 10 (c .before .before .before .spoken2 .ensures) (omega arith) (omega arith)))
