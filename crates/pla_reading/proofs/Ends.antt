@@ -103,7 +103,7 @@ pub drawn-sheet : (s : Saids) (k : Said) (outs : List ℕ) {sheet : Sheet} → K
 drawn-sheet s k outs kept is e =
     let m = s .inputs in
     let none = entry (replicate 32 0) in
-    let zero = λ c l. same-entry m 0 c (kept .most) l in
+    let zero : (c : ℕ) → c < 2 ^ m → none c ≡ 0 = λ c l. same-entry m 0 c (kept .most) l in
     e ∙ ap (λ (x : ℕ). sheetFrom entries x (entry outs) none none) (kept .inputs)
     ∙ sheet-same entries m (entry outs) (quantity outside-counts (drawnBy s)) none (quantity either-counts (drawnBy s)) none (λ c. 0)
     (λ c l. is .1 c (omega (arith, combinations-fit m (kept .most), l)) ∙ ap (λ (f : ℕ → Bool). only (not (f c)) 1) (kept .class) ∙ outs-alone (covered m (s .cubes) c))

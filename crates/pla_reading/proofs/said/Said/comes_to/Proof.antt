@@ -32,13 +32,13 @@ returns-3 c s kept =
 
 afresh-requires : tie.Need-afresh-requires
 afresh-requires c κs =
-    let e = c .before .before in
+    let e = c .before .before .before in
     let a = e .before .before .before .before .before .before .before in
     (a .pre .0, outs-addable _ _ (e .outs-of .result) (a .pre .0) (e .outs-of .ensures), same-addable _ 0 (a .pre .0) (omega arith), same-addable _ 0 (a .pre .0) (omega arith))
 
 returns-4 : tie.Need-returns-4
 returns-4 c s kept =
-    let e = c .before .before .before in
+    let e = c .before .before .before .before in
     let z = e .before .before .before in
     let a = z .before .before .before .before in
     ap (λ (y : Sheet). record { number = 0; place = 0; sheet = y }) (drawn-sheet s (a .args .self) (e .outs-of .result) kept (e .outs-of .ensures) (c .afresh .ensures))
@@ -48,4 +48,4 @@ returns-4 c s kept =
 pub comes-to-spec : {M : Type 1} → statement M
 comes-to-spec = tie.close (tie.spec
     (λ c κs. search needs) returns (λ c κs. search needs) returns-2 (λ c κs. search needs) (λ c κs. search needs) returns-3 (λ c κs. search needs)
-    (λ c. search needs) (λ c. search needs) afresh-requires returns-4)
+    (λ c. search needs) (λ c. search needs) (λ c. search needs) afresh-requires returns-4)
