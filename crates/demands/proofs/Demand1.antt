@@ -1,27 +1,30 @@
 -- Call by call: an answer of 0 has nothing to show, and any other is one of the refusals of its contract.
-use Prim.Native.Nat.{ℕ, zero, suc, _^_, _≤_}
+use Prim.Native.Nat.{ℕ, zero, suc, _+_, _^_}
 use mathlib.Core.Path.{_≡_, refl, sym, _∙_, ap, subst}
-use mathlib.Core.Bool.{Bool, true, false, not, cond}
+use mathlib.Core.Bool.{Bool, true, false, not, cond, _&&_}
 use mathlib.Core.List.{List, [], _∷_}
 use mathlib.Core.Logic.{_⊎_, ⊎-elim}
-use native.Mathlib.Omega.{arith}
-use lib.Dec.{eqb, leb, ltb}
+use lib.Dec.{leb, ltb}
 use lib.ListN.{getD}
 use borrow.Author.Tests.{ne-eqb}
 use Rattle.ground.proofs.Cases.{if}
-use Rattle.tables.specs.Tables.{own, touched}
+use Rattle.tables.specs.Tables.{touched}
 use Rattle.sheet.specs.Limits.{mostMarks, entries, marksOk, amountOk}
-use Rattle.sheet.specs.Record.{Table, sheetOf, opened}
-use Rattle.sheet.specs.Calls.{openOf, standing, fitsClass, fitsAmount, changeNo, amountNo, numberOn, didOf, moveOf, movedSheet, ClassSize}
+use Rattle.sheet.specs.Record.{isEither, Table, outside-counts, either-counts, held-seconds, sheetOf, opened}
+use Rattle.sheet.specs.Sound.{ownIn, tells}
+use Rattle.sheet.specs.Calls.{openOf, countsFit, fitsAmount, changeNo, amountNo, numberOn, didOf, moveOf, movedSheet, ClassSize}
 use Rattle.sheet.specs.declared.Call.{Call}
-use Rattle.sheet.specs.declared.Call.the-variants.{Enter, Leave, Receive, Withdraw}
+use Rattle.sheet.specs.declared.Call.the-variants.{Change, Receive, Withdraw}
+use Rattle.sheet.specs.declared.Standing.{Standing}
+use Rattle.sheet.specs.declared.Standing.the-variants.{Either}
 use Rattle.sheet.specs.declared.Sheet.{Sheet}
 use Rattle.sheet.specs.declared.Answer.{Answer}
 use Rattle.sheet.specs.declared.Value.{Value}
 use Rattle.sheet.proofs.Answers.{open-done, open-refused}
 use Rattle.listing.specs.Listing.{Searched, Listed, Totalled}
 use Rattle.stored.specs.Fields.{Outcome, good, refused}
-use Rattle.stored.specs.Answers.{readOf, ReadBy, Reads, Writes}
+use Rattle.stored.specs.Answers.{readOf, ReadBy, ReadsBy, Writes}
+use Rattle.stored.specs.declared.Layout.{Layout}
 use Rattle.stored.specs.declared.Read.{Read}
 use Rattle.stored.proofs.Refusals.{refusals}
 use Rattle.pla.specs.Answers.{ReadsPla, WritesPla}
@@ -37,7 +40,7 @@ use Rattle.checking.specs.declared.Verdict.{Verdict}
 use Rattle.vault.specs.Entries.{noReply, HoldsNoneBy, Put, ChangesBy, TellsAs, Tells, Judges, Lends, Compared, KeptAt, same}
 use Rattle.vault.specs.declared.Reply.{Reply}
 use Rattle.demands.specs.Calls.{Told, Lent, nothing, sheet, bytes, ofNumber, ofValue, ofRead, ofReading, ofVerdict, ofReply, Made}
-use Rattle.demands.specs.Demand1.{Refuses, Demand1}
+use Rattle.demands.specs.Demand1.{inTable, Refuses, Demand1}
 
 -- a value of 0, or two, or none
 nought : (i : ℕ) → _≡_ {A = ℕ} (getD (0 ∷ []) i 0) 0
@@ -48,50 +51,51 @@ noughts : (i : ℕ) → _≡_ {A = ℕ} (getD (0 ∷ 0 ∷ []) i 0) 0
 noughts zero = refl
 noughts (suc i) = nought i
 
--- the ways an answer can be: done; refused by a number below 10 without a place; refused by 10
+-- the ways an answer can be: done; refused by a number of the table without a place; refused by 10
 done : {p : ℕ} {v : List ℕ} {a b : Lent} → p ≡ 0 → Refuses (record { answer = 0; place = p; values = v }) b a
-done e = record { of-table = omega arith; leaves = λ n. absurd (n refl); no-value = λ n. absurd (n refl); no-place = λ n. e }
+done e = record { of-table = refl; leaves = λ n. absurd (n refl); no-value = λ n. absurd (n refl); no-place = λ n. e }
 
-left : {n : ℕ} {v : List ℕ} {l : Lent} → n ≤ 10 → ((i : ℕ) → getD v i 0 ≡ 0) → Refuses (record { answer = n; place = 0; values = v }) l l
+left : {n : ℕ} {v : List ℕ} {l : Lent} → inTable n ≡ true → ((i : ℕ) → getD v i 0 ≡ 0) → Refuses (record { answer = n; place = 0; values = v }) l l
 left h z = record { of-table = h; leaves = λ n. refl; no-value = λ n. z; no-place = λ n. refl }
 
 placed : {p : ℕ} {v : List ℕ} {l : Lent} → ((i : ℕ) → getD v i 0 ≡ 0) → Refuses (record { answer = 10; place = p; values = v }) l l
-placed z = record { of-table = omega arith; leaves = λ n. refl; no-value = λ n. z; no-place = λ n. absurd (n refl) }
+placed z = record { of-table = refl; leaves = λ n. refl; no-value = λ n. z; no-place = λ n. absurd (n refl) }
 
 -- opening and changing
 
-cond-le : (t : Bool) (x y : ℕ) → x ≤ 10 → y ≤ 10 → cond t x y ≤ 10
-cond-le true x y h k = h
-cond-le false x y h k = k
+cond-in : (t : Bool) (x y : ℕ) → inTable x ≡ true → inTable y ≡ true → inTable (cond t x y) ≡ true
+cond-in true x y h k = h
+cond-in false x y h k = k
 
-change-le : (most : ℕ) (into : Bool) (m : ℕ) (t : List ℕ) (c : ℕ) → changeNo most into m t c ≤ 10
+change-in : (most : ℕ) (to : Standing) (s : Sheet) (c : ℕ) → inTable (changeNo most to s c) ≡ true
 unfolding changeNo
-change-le most into m t c =
-    cond-le (not (marksOk most m)) 7 _ (omega arith)
-    (cond-le (leb (2 ^ m) c) 2 _ (omega arith)
-    (cond-le (ltb 1 (own m t c)) 7 _ (omega arith)
-    (cond-le (eqb (own m t c) (standing into)) 3 _ (omega arith)
-    (cond-le (not (touched m c (fitsClass into m t))) 7 0 (omega arith) (omega arith)))))
+change-in most to s c =
+    cond-in (not (marksOk most (s .marks))) 7 _ refl
+    (cond-in (leb (2 ^ s .marks) c) 2 _ refl
+    (cond-in (ltb 1 (ownIn outside-counts s c + ownIn either-counts s c)) 7 _ refl
+    (cond-in (tells to (ownIn outside-counts s c) (ownIn either-counts s c)) 3 _ refl
+    (cond-in (isEither to && ltb 0 (ownIn held-seconds s c)) 12 _ refl
+    (cond-in (not (countsFit to s c)) 7 0 refl refl)))))
 
-amount-le : (most : ℕ) (more : Bool) (m : ℕ) (t : List ℕ) (c d : ℕ) → amountNo most more m t c d ≤ 10
+amount-in : (most : ℕ) (more : Bool) (s : Sheet) (c d : ℕ) → inTable (amountNo most more s c d) ≡ true
 unfolding amountNo
-amount-le most more m t c d =
-    cond-le (not (marksOk most m)) 7 _ (omega arith)
-    (cond-le (leb (2 ^ m) c) 2 _ (omega arith)
-    (cond-le (not (amountOk d)) 4 _ (omega arith)
-    (cond-le (not (touched m c (fitsAmount more d t))) _ 0 (cond-le more 8 9 (omega arith) (omega arith)) (omega arith))))
+amount-in most more s c d =
+    cond-in (not (marksOk most (s .marks))) 7 _ refl
+    (cond-in (leb (2 ^ s .marks) c) 2 _ refl
+    (cond-in (not (amountOk d)) 4 _ refl
+    (cond-in (more && tells Either (ownIn outside-counts s c) (ownIn either-counts s c)) 12 _ refl
+    (cond-in (not (touched (s .marks) c (fitsAmount more d (s .held)))) _ 0 (cond-in more 8 9 refl refl) refl))))
 
-number-le : (s : Sheet) (k : Call) → numberOn mostMarks s k ≤ 10
-number-le s (Enter c) = change-le mostMarks true (s .marks) (s .outside) c
-number-le s (Leave c) = change-le mostMarks false (s .marks) (s .outside) c
-number-le s (Receive c d) = amount-le mostMarks true (s .marks) (s .held) c d
-number-le s (Withdraw c d) = amount-le mostMarks false (s .marks) (s .held) c d
+number-in : (s : Sheet) (k : Call) → inTable (numberOn mostMarks s k) ≡ true
+number-in s (Change to c) = change-in mostMarks to s c
+number-in s (Receive c d) = amount-in mostMarks true s c d
+number-in s (Withdraw c d) = amount-in mostMarks false s c d
 
 did-left : (s : Sheet) (k : Call) → (didOf mostMarks s k .number ≡ 0 → ⊥) → didOf mostMarks s k .sheet ≡ s
-did-left s k n = ap (λ (t : Bool). cond t (movedSheet (moveOf k) s) s) (ne-eqb (numberOn mostMarks s k) 0 n)
+did-left s k n = ap (λ (t : Bool). cond t (movedSheet (moveOf s k) s) s) (ne-eqb (numberOn mostMarks s k) 0 n)
 
 did-refuses : (s : Sheet) (k : Call) → Refuses (ofNumber (didOf mostMarks s k .number)) (sheet s) (sheet (didOf mostMarks s k .sheet))
-did-refuses s k = record { of-table = number-le s k; leaves = λ n. ap sheet (did-left s k n); no-value = λ n i. refl; no-place = λ n. refl }
+did-refuses s k = record { of-table = number-in s k; leaves = λ n. ap sheet (did-left s k n); no-value = λ n i. refl; no-place = λ n. refl }
 
 open-as : (P : Answer → Type 0) (m : ℕ) → P (record { number = 0; sheet = sheetOf entries (opened m) }) → P (record { number = 1; sheet = sheetOf entries (opened 1) })
     → P (openOf mostMarks entries m)
@@ -100,27 +104,27 @@ open-as P m d r = if (marksOk mostMarks m) (λ e. subst P (open-done mostMarks e
 -- reading off a sheet, writing it
 
 size-refuses : {s : Sheet} {v : Value} {l : Lent} → ClassSize mostMarks s v → Refuses (ofValue v) l l
-size-refuses (ClassSize.spoiled n) = left (omega arith) nought
+size-refuses (ClassSize.spoiled n) = left refl nought
 size-refuses (ClassSize.told w) = done refl
 
 total-refuses : {s : Sheet} {v : Value} {l : Lent} → Totalled mostMarks s v → Refuses (ofValue v) l l
-total-refuses (Totalled.spoiled n) = left (omega arith) nought
+total-refuses (Totalled.spoiled n) = left refl nought
 total-refuses (Totalled.told w) = done refl
 
 list-refuses : {s : Sheet} {area later : List ℕ} {v : Value} → Listed mostMarks s area v later → Refuses (ofValue v) (bytes area) (bytes later)
-list-refuses (Listed.spoiled n) = left (omega arith) nought
-list-refuses (Listed.short w l) = left (omega arith) nought
-list-refuses (Listed.searched w l (Searched.none n)) = left (omega arith) nought
+list-refuses (Listed.spoiled n) = left refl nought
+list-refuses (Listed.short w l) = left refl nought
+list-refuses (Listed.searched w l (Searched.none n)) = left refl nought
 list-refuses (Listed.searched w l (Searched.given f)) = done refl
 
 write-refuses : {s : Sheet} {out later : List ℕ} {v : Value} → Writes mostMarks s out v later → Refuses (ofValue v) (bytes out) (bytes later)
-write-refuses (Writes.spoiled n) = left (omega arith) nought
-write-refuses (Writes.short w l) = left (omega arith) nought
+write-refuses (Writes.spoiled n) = left refl nought
+write-refuses (Writes.short w l) = left refl nought
 write-refuses (Writes.written w l) = done refl
 
 write-pla-refuses : {s : Sheet} {out later : List ℕ} {v : Value} → WritesPla mostMarks s out v later → Refuses (ofValue v) (bytes out) (bytes later)
-write-pla-refuses (WritesPla.spoiled n) = left (omega arith) nought
-write-pla-refuses (WritesPla.short w f l) = left (omega arith) nought
+write-pla-refuses (WritesPla.spoiled n) = left refl nought
+write-pla-refuses (WritesPla.short w f l) = left refl nought
 write-pla-refuses (WritesPla.written w f l) = done refl
 
 -- reading
@@ -134,11 +138,11 @@ read-by-refuses {R} {l = l} fair x = subst (λ (y : Read). Refuses (ofRead y) l 
     by (good r) y = done refl
     by (refused k p) y =
         ⊎-elim
-        (λ (w : (k ≡ 1) × (p ≡ 0)). subst (λ (q : ℕ). Refuses (record { answer = k; place = q; values = [] }) l l) (sym (w .1)) (left (omega (arith, w .0)) (λ i. refl)))
+        (λ (w : (k ≡ 1) × (p ≡ 0)). subst (λ (q : ℕ). Refuses (record { answer = k; place = q; values = [] }) l l) (sym (w .1)) (left (ap inTable (w .0)) (λ i. refl)))
         (λ (w : k ≡ 10). subst (λ (x : ℕ). Refuses (record { answer = x; place = p; values = [] }) l l) (sym w) (placed (λ i. refl)))
         (fair k p y)
 
-read-refuses : {t : List ℕ} {l : Lent} (a : Read) → Reads mostMarks entries t a → Refuses (ofRead a) l l
+read-refuses : {layout : Layout} {t : List ℕ} {l : Lent} (a : Read) → ReadsBy layout mostMarks entries t a → Refuses (ofRead a) l l
 read-refuses a x = read-by-refuses (λ k p. refusals) x
 
 read-pla-refuses : {t : List ℕ} {l : Lent} (a : Read) → ReadsPla mostMarks entries t a → Refuses (ofRead a) l l
@@ -161,11 +165,11 @@ no-sheet v z x = record { of-table = x .of-table; leaves = x .leaves; no-value =
 unread-refuses : {R : Read → Type 0} {l : Lent} → ((a : Read) → R a → Refuses (ofRead a) l l) → {r : Reply} → HoldsNoneBy R noReply r → Refuses (ofReply r) l l
 unread-refuses {l = l} refuses h = subst (λ (x : Reply). Refuses (ofReply x) l l) (sym (h .reply)) (no-sheet (0 ∷ []) nought (refuses (h .read) (h .reads)))
 
-put-refuses : (a : Answer) {out later : List ℕ} {r : Reply} → a .number ≤ 10 → Put a out r later → Refuses (ofReply r) (bytes out) (bytes later)
+put-refuses : (a : Answer) {out later : List ℕ} {r : Reply} → inTable (a .number) ≡ true → Put a out r later → Refuses (ofReply r) (bytes out) (bytes later)
 put-refuses a h (Put.refused n) = left h nought
 put-refuses a h (Put.written z w) = write-refuses w
 
-change-refuses : {R : Read → Type 0} (call : Sheet → Answer) → ((s : Sheet) → call s .number ≤ 10) → {out later : List ℕ} {r : Reply}
+change-refuses : {R : Read → Type 0} (call : Sheet → Answer) → ((s : Sheet) → inTable (call s .number) ≡ true) → {out later : List ℕ} {r : Reply}
     → ((a : Read) → R a → Refuses (ofRead a) (bytes out) (bytes out)) → ChangesBy R call out r later → Refuses (ofReply r) (bytes out) (bytes later)
 change-refuses call h refuses (ChangesBy.unread u) = unread-refuses refuses u
 change-refuses call h refuses (ChangesBy.called {s = s} k p) = put-refuses (call s) (h s) p
@@ -182,7 +186,7 @@ lend-refuses call h (Lends.unread u) = unread-refuses read-refuses u
 lend-refuses call h (Lends.lent k w) = h _ _ w
 
 finding-refuses : (x : Finding) → Refuses (ofVerdict (verdictOf x)) nothing nothing
-finding-refuses Spoiled = left (omega arith) noughts
+finding-refuses Spoiled = left refl noughts
 finding-refuses Fitting = done refl
 finding-refuses (Faulty f i) = done refl
 
@@ -207,22 +211,24 @@ of-refusal x n = ap (λ (y : Read). y .sheet) (x .is) ∙ one-mark (x .outcome) 
 
 -- EVERY CALL
 every : {r : Told} {before after : Lent} → Made r before after → Refuses r before after
-every (Made.opens m) = open-as (λ (a : Answer). Refuses (ofNumber (a .number)) nothing nothing) m (done refl) (left (omega arith) (λ i. refl))
+every (Made.opens m) = open-as (λ (a : Answer). Refuses (ofNumber (a .number)) nothing nothing) m (done refl) (left refl (λ i. refl))
 every (Made.did s k) = did-refuses s k
 every (Made.class-size w) = size-refuses w
 every (Made.list w) = list-refuses w
 every (Made.check {x = x} w) = finding-refuses x
 every (Made.total w) = total-refuses w
 every (Made.read {a = a} x) = read-refuses a x
+every (Made.read-first {a = a} x) = read-refuses a x
 every (Made.write w) = write-refuses w
 every (Made.read-pla {a = a} x) = read-pla-refuses a x
 every (Made.write-pla w) = write-pla-refuses w
 every (Made.read-time {x = x} r) = time-refuses x
 every (Made.answer-time a) = answer-refuses a
-every (Made.vault-open m p) = put-refuses (openOf mostMarks entries m) (open-as (λ (a : Answer). a .number ≤ 10) m (omega arith) (omega arith)) p
-every (Made.vault-change k c) = change-refuses (λ s. didOf mostMarks s k) (λ s. number-le s k) read-refuses c
-every (Made.vault-copy c) = change-refuses same (λ s. omega arith) read-refuses c
-every (Made.vault-read-pla c) = change-refuses same (λ s. omega arith) read-pla-refuses c
+every (Made.vault-open m p) = put-refuses (openOf mostMarks entries m) (open-as (λ (a : Answer). inTable (a .number) ≡ true) m refl refl) p
+every (Made.vault-change k c) = change-refuses (λ s. didOf mostMarks s k) (λ s. number-in s k) read-refuses c
+every (Made.vault-copy c) = change-refuses same (λ s. refl) read-refuses c
+every (Made.vault-from-form1 c) = change-refuses same (λ s. refl) read-refuses c
+every (Made.vault-read-pla c) = change-refuses same (λ s. refl) read-pla-refuses c
 every (Made.vault-write-pla w) = lend-refuses (WritesPla mostMarks) (λ s v. write-pla-refuses) w
 every (Made.vault-list w) = lend-refuses (Listed mostMarks) (λ s v. list-refuses) w
 every (Made.vault-check-list w) = judge-refuses w
@@ -236,6 +242,6 @@ pub demand-1 : Demand1
 demand-1 = record {
   every-call = every;
   opening = λ m. open-as (λ (a : Answer). (a .number ≡ 0 → ⊥) → a .sheet ≡ sheetOf entries (opened 1)) m (λ n. absurd (n refl)) (λ n. refl);
-  reading = of-refusal;
+  reading = λ layout. of-refusal;
   reading-pla = of-refusal;
 }

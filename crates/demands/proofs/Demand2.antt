@@ -1,18 +1,22 @@
 -- What the contract of `list` says of the list it gives, and what follows of every first shortest list.
 use Prim.Native.Nat.{ℕ, suc, _-_, _^_, _≤_}
-use mathlib.Core.Path.{_≡_, refl, sym, _∙_, ap, subst, transport}
-use mathlib.Core.Bool.{Bool}
+use mathlib.Core.Path.{_≡_, refl, sym, _∙_, ap, subst, transport, fun-ext}
+use mathlib.Core.Bool.{Bool, true, false, not}
 use mathlib.Core.List.{List}
 use native.Mathlib.Omega.{arith}
 use lib.ListN.{length}
 use Rattle.boxes.specs.Sums.{sumOver}
 use Rattle.tables.specs.Tables.{entry}
-use Rattle.lists.specs.Lists.{Small, FirstShortest}
+use Rattle.ground.proofs.Cases.{if, clash}
+use Rattle.lists.specs.Lists.{covered, Fits, Small, FirstShortest}
 use Rattle.lists.proofs.Class.{rising-same}
 use Rattle.lists.proofs.Exist.{at-most-half}
 use Rattle.lists.proofs.First.{unique}
 use Rattle.lists.proofs.Pottosin.{fits-independent, first-smallest}
 use Rattle.sheet.specs.Limits.{mostMarks}
+use Rattle.sheet.specs.Record.{isIn, isOut, isEither, Record, inClass, notOut, NoneEither}
+use Rattle.sheet.specs.declared.Standing.{Standing}
+use Rattle.sheet.specs.declared.Standing.the-variants.{In, Out, Either}
 use Rattle.sheet.proofs.Tests.{some-marks}
 use Rattle.sheet.specs.Sound.{ClassReady, recordOf}
 use Rattle.sheet.specs.declared.Sheet.{Sheet}
@@ -24,21 +28,41 @@ use Rattle.vault.specs.Entries.{Lends}
 use Rattle.vault.specs.declared.Reply.{Reply}
 use Rattle.demands.specs.Demand2.{Lines, Printed, PrintedIn, Demand2}
 
-lines : (m : ℕ) (class : ℕ → Bool) (l : List ℕ) → 1 ≤ m → Small m class → FirstShortest m class class l → Lines m class l
-lines m class l some small f =
+-- where no combination is either, what is not out is in
+plain-room : (r : Record) → NoneEither r → notOut r ≡ inClass r
+plain-room r plain = fun-ext (λ c. told (r .standing c) (plain c))
+  where
+    told : (s : Standing) → isEither s ≡ false → not (isOut s) ≡ isIn s
+    told In e = refl
+    told Out e = refl
+    told Either e = clash refl e
+
+-- so the laws of a class hold of the list
+class-list : (r : Record) (l : List ℕ) → NoneEither r → FirstShortest (r .marks) (inClass r) (notOut r) l → FirstShortest (r .marks) (inClass r) (inClass r) l
+class-list r l plain f = subst (λ (p : ℕ → Bool). FirstShortest (r .marks) (inClass r) p l) (plain-room r plain) f
+
+covers-class : {m : ℕ} {class : ℕ → Bool} {l : List ℕ} → Fits m class class l → (c : ℕ) → covered m l c ≡ class c
+covers-class {m} {class} {l} f c =
+    if (class c)
+    (λ e. f .covers c e ∙ sym e)
+    (λ e. if (covered m l c) (λ w. clash (f .inside c w) e) (λ w. w ∙ sym e))
+
+lines : (r : Record) (l : List ℕ) → 1 ≤ r .marks → Small (r .marks) (inClass r) → FirstShortest (r .marks) (inClass r) (notOut r) l → Lines r l
+lines r l some small f =
+    let m = r .marks in
     let e : m ≡ suc (m - 1) = omega arith in
     record {
       right = f;
-      rising = transport (rising-same m class l (fits-independent m class (f .fits))) (f .rising);
       one = λ k g. unique g f;
-      form = first-smallest m class l small f;
-      few = at-most-half (m - 1) (subst (λ (n : ℕ). Small n class) e small) (subst (λ (n : ℕ). FirstShortest n class class l) e f);
+      few = at-most-half (m - 1) (subst (λ (n : ℕ). Small n (inClass r)) e small) (subst (λ (n : ℕ). FirstShortest n (inClass r) (notOut r) l) e f);
+      exactly = λ plain. covers-class (class-list r l plain f .fits);
+      rising = λ plain. transport (rising-same m (inClass r) l (fits-independent m (inClass r) (class-list r l plain f .fits))) (f .rising);
+      form = λ plain. first-smallest m (inClass r) l small (class-list r l plain f);
     }
 
 module _ (s : Sheet) where
-  pub class-lines : {l : List ℕ} → ClassReady mostMarks s → FirstShortest (s .marks) (recordOf s .class) (recordOf s .class) l
-      → Lines (s .marks) (recordOf s .class) l
-  class-lines {l} w f = lines (s .marks) (recordOf s .class) l (some-marks mostMarks (s .marks) (w .marks)) (class-small s) f
+  pub class-lines : {l : List ℕ} → ClassReady mostMarks s → FirstShortest (s .marks) (inClass (recordOf s)) (notOut (recordOf s)) l → Lines (recordOf s) l
+  class-lines {l} w f = lines (recordOf s) l (some-marks mostMarks (s .marks) (w .marks)) (class-small s) f
 
   given : {area later : List ℕ} {v : Value} → Listed mostMarks s area v later → ClassReady mostMarks s → 2 ^ s .marks ≤ length area → v .number ≡ 0
   given w r l = ap (λ (x : Value). x .number) (list-finds w r l .answer)
@@ -47,10 +71,10 @@ module _ (s : Sheet) where
   total (Totalled.spoiled n) e = absurd (omega arith)
   total (Totalled.told w) e = refl
 
-  seconds : {l : List ℕ} {t : Value} → FirstShortest (s .marks) (recordOf s .class) (recordOf s .class) l → Totalled mostMarks s t → t .number ≡ 0
+  seconds : {l : List ℕ} {t : Value} → FirstShortest (s .marks) (inClass (recordOf s)) (notOut (recordOf s)) l → Totalled mostMarks s t → t .number ≡ 0
       → sumOver l (entry (s .held)) ≡ t .value
   seconds f (Totalled.spoiled n) e = absurd (omega arith)
-  seconds {l} f (Totalled.told w) e = kept-total s l (w .times) (f .fits)
+  seconds {l} f (Totalled.told w) e = kept-total s l (w .class) (w .times) (f .fits)
 
   printed : {area later : List ℕ} {v : Value} → Listed mostMarks s area v later → v .number ≡ 0 → Printed s area v later
   printed (Listed.spoiled n) e = absurd (omega arith)

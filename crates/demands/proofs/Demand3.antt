@@ -12,7 +12,7 @@ use Rattle.boxes.proofs.Count.{boxes-through}
 use Rattle.tables.specs.Tables.{entry, afresh}
 use Rattle.tables.proofs.Entries.{afresh-entry, tab-length}
 use Rattle.sheet.specs.Limits.{mostMarks, entries, marksOk}
-use Rattle.sheet.specs.Record.{Record, Table, outside-counts, held-seconds, kept, quantity, sheetOf}
+use Rattle.sheet.specs.Record.{Record, inClass, Table, outside-counts, either-counts, held-seconds, kept, quantity, sheetOf}
 use Rattle.sheet.specs.Sound.{sizeOf}
 use Rattle.sheet.specs.Calls.{openOf, moveOf, ClassSize}
 use Rattle.sheet.specs.declared.Answer.{Answer}
@@ -23,8 +23,9 @@ use Rattle.sheet.proofs.Answers.{open-done, open-refused}
 use Rattle.sheet.proofs.Alters.{did-alters}
 use Rattle.sheet.proofs.Tests.{boxes-fit, accepts}
 use Rattle.listing.specs.Listing.{totalOf, Listed, Totalled}
-use Rattle.stored.specs.Answers.{readOf}
-use Rattle.stored.specs.Fields.{good}
+use Rattle.stored.specs.Answers.{readOf, ReadsBy}
+use Rattle.stored.specs.Fields.{good, ReadingBy}
+use Rattle.stored.specs.declared.Layout.the-variants.{First, Today}
 use Rattle.stored.specs.Form.{form}
 use Rattle.stored.specs.declared.Read.{Read}
 use Rattle.stored.proofs.IsForm.{is-form}
@@ -32,7 +33,7 @@ use Rattle.stored.proofs.Runs.{one}
 use Rattle.pla.specs.Reading.{PlaSays}
 use Rattle.pla.specs.Answers.{ReadsPla}
 use Rattle.pla.proofs.Runs.{says-one-outcome}
-use Rattle.pla.proofs.Drawings.{drawn-marks, drawn-combination}
+use Rattle.pla.proofs.Drawings.{drawn-marks, drawn-times, drawn-combination}
 use Rattle.pla.proofs.Sound.{drawn-storable}
 use Rattle.histories.specs.Histories.{Good, Given, numberOf, after, afterAll, numbersOf, sheetAfter, numberGiven}
 use Rattle.histories.specs.Travels.{Event, Lives, eventNumber, afterEvent}
@@ -56,6 +57,7 @@ afresh-every n m f b l =
 module _ (r : Record) (g : Good r) where
   pub kept-afresh : (t : Table) (b : ℕ) → entry (kept t (sheetOf entries r)) b ≡ sumIn (r .marks) b (quantity t r)
   kept-afresh outside-counts b = afresh-every entries (r .marks) (quantity outside-counts r) b (boxes-fit (r .marks) (g .marks))
+  kept-afresh either-counts b = afresh-every entries (r .marks) (quantity either-counts r) b (boxes-fit (r .marks) (g .marks))
   kept-afresh held-seconds b = afresh-every entries (r .marks) (quantity held-seconds r) b (boxes-fit (r .marks) (g .marks))
 
   -- the sheet of the record
@@ -92,7 +94,7 @@ module _ (r : Record) (g : Good r) where
     each-kept = λ k b w. told (KeptAt k b) (sumIn (r .marks) b (quantity k r)) (λ v e. e ∙ ap (λ (n : ℕ). record { number = 0; value = n }) (kept-afresh k b)) w;
     list = λ l w. lent l w;
     total = λ w. told (Totalled mostMarks) (totalOf r) (λ v e. total-afresh r g v e) w;
-    class-size = λ w. told (ClassSize mostMarks) (sizeOf (r .marks) (r .class)) (λ v e. size-afresh r g v e) w;
+    class-size = λ w. told (ClassSize mostMarks) (sizeOf (r .marks) (inClass r)) (λ v e. size-afresh r g v e) w;
   }
 
 -- beginnings
@@ -102,21 +104,26 @@ open-accepted m z =
     if (marksOk mostMarks m) (λ e. e) (λ e. absurd (omega (arith, ap (λ (a : Answer). a .number) (open-refused mostMarks entries m e))))
 
 pub good-drawn : {t : List ℕ} {r : Record} → PlaSays mostMarks t (good r) → Good r
-good-drawn p = record { marks = drawn-marks p; class = drawn-combination p; times = drawn-storable p .most-held }
+good-drawn p = record { marks = drawn-marks p; standing = drawn-combination p; times = drawn-storable p .most-held; apart = λ c e. drawn-times p c }
 
 pub pla-drawn : {t : List ℕ} {r : Record} → PlaSays mostMarks t (good r) → (a : Read) → ReadsPla mostMarks entries t a → a ≡ readOf entries (good r)
 pla-drawn p a x = x .is ∙ ap (readOf entries) (says-one-outcome (x .run) p)
 
+-- what 01's form is read as
+first-read : {t : List ℕ} {r : Record} → ReadingBy First mostMarks t (good r) → (a : Read) → ReadsBy First mostMarks entries t a → a ≡ readOf entries (good r)
+first-read y a x = x .is ∙ ap (readOf entries) (one (x .run) y)
+
 begins-good : {s : Sheet} {r : Record} → Begins s r → Good r × (s ≡ sheetOf entries r)
 begins-good (Begins.opening m z) =
     let e = open-accepted m z in (good-opened m e, sym (ap (λ (a : Answer). a .sheet) (open-done mostMarks entries m e)))
-begins-good (Begins.reading b x y) =
-    (good-read b y, ap (λ (a : Read). a .sheet) (x .is ∙ ap (readOf entries) (one (x .run) y)))
+begins-good (Begins.reading layout b x y) =
+    (good-read layout b y, ap (λ (a : Read). a .sheet) (x .is ∙ ap (readOf entries) (one (x .run) y)))
 begins-good (Begins.drawing {a = a} x p) = (good-drawn p, ap (λ (y : Read). y .sheet) (pla-drawn p a x))
 
 begins-in-good : {t : List ℕ} {r : Record} → BeginsIn t r → Good r × (t ≡ form r)
 begins-in-good (BeginsIn.opening m p z) = let w = open-begins m p z in (good-opened m (w .0), w .1)
-begins-in-good (BeginsIn.reading {t} b y) = (good-read b y, is-form t b y .bytes)
+begins-in-good (BeginsIn.reading {t} b y) = (good-read Today b y, is-form Today t b y .bytes)
+begins-in-good (BeginsIn.converting {r = r} b c z y) = let g = good-read First b y in (g, read-begins r g (first-read y) c z)
 begins-in-good (BeginsIn.drawing {r = r} c z p) = let g = good-drawn p in (g, read-begins r g (pla-drawn p) c z)
 
 -- every sequence
@@ -151,5 +158,5 @@ demand-3 = record {
   journeys = journeys;
   entries = through-c;
   alters = did-alters;
-  touched = λ s k z. boxes-through (s .marks) (moveOf k .at) (accepts s k z .low);
+  touched = λ s k z. boxes-through (s .marks) (moveOf s k .at) (accepts s k z .low);
 }

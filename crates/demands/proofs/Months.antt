@@ -23,7 +23,7 @@ use Rattle.year.specs.Heard.{EndsWith}
 use Rattle.year.specs.States.{Sensible}
 use Rattle.year.proofs.Outputs.{exactly-one, sensible-step, good-start}
 use Rattle.year.proofs.Ends.{rows-at-stop, rows-at-end}
-use Rattle.year.proofs.Answers.{year-seen, marks-seen, line-seen, rows-last}
+use Rattle.year.proofs.Answers.{PlainIn, plain-step, year-seen, marks-seen, line-seen, rows-last}
 use Rattle.demands.specs.Demand3.{opening}
 use Rattle.demands.specs.Months.{HasBooked, callsUpTo, MonthRow, Months}
 use Rattle.demands.proofs.Demand3.{demand-3}
@@ -61,6 +61,6 @@ months = record {
   refused = not-booked;
   heard-1 = year-seen;
   heard-2 = marks-seen;
-  heard = line-seen;
+  heard = λ b. line-seen (takes-kept PlainIn (λ k s t row now. plain-step) (b .takes) tt);
   calendar = known;
 }

@@ -1,11 +1,12 @@
 -- A good text draws a record, and the sheet read is the one worked out from it; what the writer gives is the text of the one first shortest list.
 use Prim.Native.Nat.{ℕ, _-_, _/_, _%_, _^_, _≤_, _<_}
 use mathlib.Core.Path.{_≡_, refl, sym, _∙_, ap, subst}
-use mathlib.Core.Bool.{false}
+use mathlib.Core.Bool.{true, false, not, _&&_, _||_}
 use mathlib.Core.List.{List, []}
 use mathlib.Core.Logic.{_⊎_, ⊎-elim}
 use native.Mathlib.Omega.{arith}
 use lib.Dec.{eqb}
+use borrow.Author.Tests.{le-ltb, not-true}
 use lib.ListN.{length, getD, drop}
 use lib.Seq.{take-at}
 use Rattle.ground.specs.Decides.{Decides}
@@ -15,11 +16,15 @@ use Rattle.boxes.specs.Sums.{only}
 use Rattle.boxes.proofs.Sums.{sum-ext, sum-zero, only-zero}
 use Rattle.print.specs.Texts.{sign}
 use Rattle.print.proofs.Patterns.{pattern-mark}
-use Rattle.sheet.specs.Limits.{mostMarks, entries}
-use Rattle.sheet.specs.Record.{Record, held-seconds, withTimes, sheetOf}
+use Rattle.lists.specs.Lists.{covered, Fits}
+use Rattle.sheet.specs.Limits.{mostMarks, entries, marksOk}
+use Rattle.sheet.specs.Record.{isIn, isOut, isEither, Record, inClass, notOut, held-seconds, sheetOf}
 use Rattle.sheet.specs.Sound.{recordOf}
 use Rattle.sheet.specs.declared.Sheet.{Sheet}
+use Rattle.sheet.specs.declared.Standing.{Standing}
+use Rattle.sheet.specs.declared.Standing.the-variants.{In, Out, Either}
 use Rattle.sheet.specs.declared.Value.{Value}
+use Rattle.sheet.proofs.Told.{in-not-out, not-out-low}
 use Rattle.listing.proofs.Finds.{class-small}
 use Rattle.stored.specs.Fields.{Outcome, good, refused}
 use Rattle.stored.specs.Answers.{readOf, Writes}
@@ -27,11 +32,11 @@ use Rattle.stored.specs.declared.Read.{Read}
 use Rattle.stored.proofs.Trips.{told-agrees}
 use Rattle.histories.proofs.Travels.{five}
 use Rattle.pla.specs.Sayings.{cube, Says}
-use Rattle.pla.specs.Reading.{PlaSays}
+use Rattle.pla.specs.Reading.{classAlone, PlaSays}
 use Rattle.pla.specs.Writing.{plaText}
 use Rattle.pla.specs.Answers.{ReadsPla, WritesPla}
 use Rattle.pla.proofs.Runs.{refusals, says-one-outcome}
-use Rattle.pla.proofs.Drawings.{drawn-marks, drawn-times, drawn-class, drawn-combination}
+use Rattle.pla.proofs.Drawings.{in-alone, drawn-marks, drawn-times, drawn-class, drawn-plain, drawn-combination}
 use Rattle.pla.proofs.Settled.{reads-pla-some, reads-pla-settled}
 use Rattle.pla.proofs.Back.{pla-back}
 use Rattle.vault.specs.Entries.{Put, ChangesBy, Lends, same}
@@ -65,17 +70,29 @@ none-held : (m b : ℕ) (f : ℕ → ℕ) → ((c : ℕ) → f c ≡ 0) → sumI
 unfolding sumIn
 none-held m b f h = sum-ext (2 ^ m) _ (λ c. 0) (λ c l. ap (only (contains m b c)) (h c) ∙ only-zero (contains m b c)) ∙ sum-zero (2 ^ m)
 
+-- a sheet worked out afresh tells the standings of its record below 2^m, and above everything is out
+told-by : (P : Standing → Type 0) (r : Record) → marksOk mostMarks (r .marks) ≡ true → (c : ℕ) → (c < 2 ^ r .marks → P (r .standing c)) → (2 ^ r .marks ≤ c → P Out)
+    → P (recordOf (sheetOf entries r) .standing c)
+told-by P r ok c low high =
+    below-or c (2 ^ r .marks)
+    (λ l. subst P (sym (told-agrees mostMarks entries five r ok .standing c l)) (low l))
+    (λ l. rw (le-ltb c (2 ^ r .marks) l) (high l))
+
 module _ {t : List ℕ} where
   drawn : (r : Record) → PlaSays mostMarks t (good r) → DrawnFrom t (sheetOf entries r)
   drawn r p =
       let s = sheetOf entries r in
-      let told = told-agrees mostMarks entries five r (drawn-marks p) in
+      let ok = drawn-marks p in
+      let told = told-agrees mostMarks entries five r ok in
       record {
-        marks = drawn-marks p;
+        marks = ok;
         class = λ c. record {
-          yes = λ e. drawn-class p c .yes (sym (told .class c (class-small s c e)) ∙ e);
-          sure = λ d. let e = drawn-class p c .sure d in told .class c (drawn-combination p c e) ∙ e;
+          yes = λ e. drawn-class p c .yes (sym (ap isIn (told .standing c (class-small s c e))) ∙ e);
+          sure = λ d.
+              let e = drawn-class p c .sure d in
+              ap isIn (told .standing c (drawn-combination p c (not-true (isOut (r .standing c)) (in-not-out r c e)))) ∙ e;
         };
+        others = λ c. told-by (λ (x : Standing). isEither x ≡ false) r ok c (λ l. drawn-plain p c) (λ l. refl);
         nothing-held = λ b. kept-afresh r (good-drawn p) held-seconds b ∙ none-held (r .marks) b (r .times) (drawn-times p);
         sheet = λ q. ap (λ (o : Outcome). readOf entries o .sheet) (says-one-outcome p q);
       }
@@ -102,25 +119,39 @@ module _ {t : List ℕ} where
 left : {out later : List ℕ} {r : Reply} → Refuses (ofReply r) (bytes out) (bytes later) → (r .answer ≡ 0 → ⊥) → later ≡ out
 left x n = let e = x .leaves n in cc
 
--- what is read back: the record of the sheet's marks and class, with no times
+-- what is read back: the record of what the lines cover, with no times
 
-abbrev drawnAgain : Sheet → Record
-drawnAgain s = withTimes (λ c. 0) (recordOf s)
+-- lines cover what is in, nothing that is out, and of what is either what they cover
+covered-standing : (r : Record) {l : List ℕ} → Fits (r .marks) (inClass r) (notOut r) l → (c : ℕ)
+    → covered (r .marks) l c ≡ (inClass r c || (isEither (r .standing c) && covered (r .marks) l c))
+covered-standing r {l} f c = by (r .standing c) (f .covers c) (f .inside c)
+  where
+    by : (s : Standing) → (isIn s ≡ true → covered (r .marks) l c ≡ true) → (covered (r .marks) l c ≡ true → not (isOut s) ≡ true)
+        → covered (r .marks) l c ≡ (isIn s || (isEither s && covered (r .marks) l c))
+    by In in-it out-of = in-it refl
+    by Out in-it out-of = if (covered (r .marks) l c) (λ e. clash (out-of e) refl) (λ e. e)
+    by Either in-it out-of = refl
 
-high : (s : Sheet) (c : ℕ) → 2 ^ s .marks ≤ c → recordOf s .class c ≡ false
-high s c l = if (recordOf s .class c) (λ e. absurd (omega (arith, class-small s c e, l))) (λ e. e)
+module _ (s : Sheet) (l : List ℕ) (f : Fits (s .marks) (inClass (recordOf s)) (notOut (recordOf s)) l) where
+  abbrev again : Record
+  again = classAlone (s .marks) (covered (s .marks) l)
 
-gives-back : {t : List ℕ} (s : Sheet) {a : Read} → PlaSays mostMarks t (good (drawnAgain s)) → ReadsPla mostMarks entries t a → GivesBack s a
-gives-back s {a} p x =
-    let q = drawnAgain s in
-    let told = told-agrees mostMarks entries five q (drawn-marks p) in
-    subst (GivesBack s) (sym (pla-drawn p a x))
-    (record {
-      done = refl;
-      marks = refl;
-      class = λ c. below-or c (2 ^ s .marks) (λ l. told .class c l) (λ l. high (sheetOf entries q) c l ∙ sym (high s c l));
-      nothing-held = drawn q p .nothing-held;
-    })
+  -- no line has a number that is no combination
+  low-covered : (c : ℕ) → 2 ^ s .marks ≤ c → covered (s .marks) l c ≡ false
+  low-covered c h = if (covered (s .marks) l c) (λ e. absurd (omega (arith, not-out-low s c (f .inside c e), h))) (λ e. e)
+
+  gives-back : {t : List ℕ} {a : Read} → marksOk mostMarks (s .marks) ≡ true → PlaSays mostMarks t (good again) → ReadsPla mostMarks entries t a → GivesBack s l a
+  gives-back {a = a} ok p x =
+      let d = drawn again p in
+      subst (GivesBack s l) (sym (pla-drawn p a x))
+      (record {
+        done = refl;
+        marks = refl;
+        class = λ c. told-by (λ (y : Standing). isIn y ≡ covered (s .marks) l c) again ok c (λ h. in-alone (covered (s .marks) l c)) (λ h. sym (low-covered c h))
+            ∙ covered-standing (recordOf s) f c;
+        others = d .others;
+        nothing-held = d .nothing-held;
+      })
 
 -- what is written
 
@@ -130,13 +161,13 @@ written (WritesPla.short w f l) z = absurd (omega arith)
 written {s} {out} (WritesPla.written {l} w f h) z =
     let t = plaText (s .marks) l in
     let front = take-at t (drop (length t) out) (length t) refl in
-    let says = pla-back mostMarks (s .marks) (w .marks) (recordOf s .class) l (f .fits) in
+    let says = pla-back mostMarks (s .marks) (w .marks) l (f .fits .boxes) in
     record {
       lines = l;
       of-class = class-lines s w f;
       size = refl;
       stands = refl;
-      back = λ x. gives-back s (subst (λ (y : List ℕ). PlaSays mostMarks y (good (drawnAgain s))) (sym front) says) x;
+      back = λ x. gives-back s l (f .fits) (w .marks) (subst (λ (y : List ℕ). PlaSays mostMarks y (good (again s l (f .fits)))) (sym front) says) x;
     }
 
 entry-written : {t out later : List ℕ} {r : Reply} → Lends (WritesPla mostMarks) t out r later → r .answer ≡ 0 → WrittenIn t out r later
@@ -148,7 +179,7 @@ written-seven (WritesPla.spoiled n) = (λ e. n, λ k. refl)
 written-seven (WritesPla.short w f l) = (λ e. absurd (omega arith), λ k. absurd (k w))
 written-seven (WritesPla.written w f l) = (λ e. absurd (omega arith), λ k. absurd (k w))
 
-five-exactly : {s : Sheet} {out later l : List ℕ} {v : Value} → WritesPla mostMarks s out v later → (v .number ≡ 7 → ⊥) → Lines (s .marks) (recordOf s .class) l
+five-exactly : {s : Sheet} {out later l : List ℕ} {v : Value} → WritesPla mostMarks s out v later → (v .number ≡ 7 → ⊥) → Lines (recordOf s) l
     → Decides (eqb (v .number) 5) (length out < length (plaText (s .marks) l))
 five-exactly (WritesPla.spoiled n) k q = absurd (k refl)
 five-exactly {s} {out} (WritesPla.short w f h) k q =

@@ -9,7 +9,8 @@ use Rattle.sheet.specs.declared.Call.{Call}
 use Rattle.sheet.specs.declared.Sheet.{Sheet}
 use Rattle.sheet.specs.declared.Value.{Value}
 use Rattle.listing.specs.Listing.{Listed, Totalled}
-use Rattle.stored.specs.Answers.{Reads, Writes}
+use Rattle.stored.specs.Answers.{ReadsBy, Reads, Writes}
+use Rattle.stored.specs.declared.Layout.the-variants.{First}
 use Rattle.stored.specs.declared.Read.{Read}
 use Rattle.pla.specs.Answers.{ReadsPla, WritesPla}
 use Rattle.times.specs.Texts.{Readable}
@@ -64,15 +65,18 @@ pub data Made : Told → (before after : Lent) → Type 0 where
   check : {s : Sheet} {l : List ℕ} {x : Finding} → Checked mostMarks s l x → Made (ofVerdict (verdictOf x)) nothing nothing
   total : {s : Sheet} {v : Value} → Totalled mostMarks s v → Made (ofValue v) nothing nothing
   read : {t : List ℕ} {a : Read} → Reads mostMarks entries t a → Made (ofRead a) nothing nothing
+  read-first : {t : List ℕ} {a : Read} → ReadsBy First mostMarks entries t a → Made (ofRead a) nothing nothing
   write : {s : Sheet} {out later : List ℕ} {v : Value} → Writes mostMarks s out v later → Made (ofValue v) (bytes out) (bytes later)
   read-pla : {t : List ℕ} {a : Read} → ReadsPla mostMarks entries t a → Made (ofRead a) nothing nothing
   write-pla : {s : Sheet} {out later : List ℕ} {v : Value} → WritesPla mostMarks s out v later → Made (ofValue v) (bytes out) (bytes later)
   read-time : {t : List ℕ} {x : Time} → ReadsAs Readable t x → Made (ofReading (readingOf x)) nothing nothing
   answer-time : {t : List ℕ} {r : Reading} → Answered t r → Made (ofReading r) nothing nothing
-  -- from C; a change is that of vault_enter, vault_leave, vault_receive or vault_withdraw, a kept number that of vault_outside or vault_held
+  -- from C; a change is that of vault_enter, vault_leave, vault_make_either, vault_receive or vault_withdraw, a kept number that of vault_outside,
+  -- vault_either or vault_held
   vault-open : (m : ℕ) {out later : List ℕ} {r : Reply} → Put (openOf mostMarks entries m) out r later → Made (ofReply r) (bytes out) (bytes later)
   vault-change : (k : Call) {t out later : List ℕ} {r : Reply} → Changes (λ s. didOf mostMarks s k) t out r later → Made (ofReply r) (bytes out) (bytes later)
   vault-copy : {t out later : List ℕ} {r : Reply} → Changes same t out r later → Made (ofReply r) (bytes out) (bytes later)
+  vault-from-form1 : {t out later : List ℕ} {r : Reply} → ChangesBy (ReadsBy First mostMarks entries t) same out r later → Made (ofReply r) (bytes out) (bytes later)
   vault-read-pla : {t out later : List ℕ} {r : Reply} → ChangesBy (ReadsPla mostMarks entries t) same out r later → Made (ofReply r) (bytes out) (bytes later)
   vault-write-pla : {t out later : List ℕ} {r : Reply} → Lends (WritesPla mostMarks) t out r later → Made (ofReply r) (bytes out) (bytes later)
   vault-list : {t area later : List ℕ} {r : Reply} → Lends (Listed mostMarks) t area r later → Made (ofReply r) (bytes area) (bytes later)

@@ -5,6 +5,7 @@ use mathlib.Core.List.{List, _∷_, _++_}
 use lib.ListN.{take}
 use Rattle.lists.specs.Lists.{Fits}
 use Rattle.sheet.specs.Limits.{mostMarks}
+use Rattle.sheet.specs.Record.{inClass, notOut}
 use Rattle.sheet.specs.Sound.{ClassReady, recordOf}
 use Rattle.sheet.specs.declared.Sheet.{Sheet}
 use Rattle.sheet.specs.declared.Value.{Value}
@@ -18,13 +19,13 @@ use Rattle.checking.specs.declared.Verdict.{Verdict}
 use Rattle.vault.specs.Entries.{Holds, Lends, Judges}
 use Rattle.vault.specs.declared.Reply.{Reply}
 
--- the list fits the class of the sheet
+-- the list fits the class of the sheet: it covers what is in, and nothing that is out
 abbrev pub FitsClass : Sheet → List ℕ → Type 0
-FitsClass s l = Fits (s .marks) (recordOf s .class) (recordOf s .class) l
+FitsClass s l = Fits (s .marks) (inClass (recordOf s)) (notOut (recordOf s)) l
 
 -- the first place of the list's first fault
 abbrev pub FirstFaultIn : Sheet → List ℕ → Fault → ℕ → Type 0
-FirstFaultIn s l f i = FirstFault (s .marks) (recordOf s .class) (recordOf s .class) l f i
+FirstFaultIn s l f i = FirstFault (s .marks) (inClass (recordOf s)) (notOut (recordOf s)) l f i
 
 -- what was found through C, of the sheet that the lent bytes hold
 pub record CheckedIn (t l : List ℕ) (r : Verdict) : Type 0 where

@@ -1,20 +1,27 @@
 -- DEMAND 1. No input may make it fail: every call does its work or refuses by a number of the table, and a refusal leaves everything as it was.
 -- (That a call always returns, and does nothing undefined on the way, is what the check of its code says: no public call has a `requires`.)
-use Prim.Native.Nat.{ℕ, _≤_}
+use Prim.Native.Nat.{ℕ}
 use mathlib.Core.Path.{_≡_}
+use mathlib.Core.Bool.{Bool, true, _||_}
 use mathlib.Core.List.{List}
+use lib.Dec.{eqb, leb}
 use lib.ListN.{getD}
 use Rattle.sheet.specs.Limits.{mostMarks, entries}
 use Rattle.sheet.specs.Record.{sheetOf, opened}
 use Rattle.sheet.specs.Calls.{openOf}
-use Rattle.stored.specs.Answers.{Reads}
+use Rattle.stored.specs.Answers.{ReadsBy}
+use Rattle.stored.specs.declared.Layout.{Layout}
 use Rattle.stored.specs.declared.Read.{Read}
 use Rattle.pla.specs.Answers.{ReadsPla}
 use Rattle.demands.specs.Calls.{Told, Lent, Made}
 
--- what every call answers: a number of the table, 0 to 10; refused, 0 for each value and all that was lent as it was; the place is 0 for every number but 10
+-- the numbers of the table: 0 to 10, and 12 for an either combination (11 is the year's alone)
+abbrev pub inTable : ℕ → Bool
+inTable n = leb n 10 || eqb n 12
+
+-- what every call answers: a number of the table; refused, 0 for each value and all that was lent as it was; the place is 0 for every number but 10
 pub record Refuses (r : Told) (before after : Lent) : Type 0 where
-  pub of-table : r .answer ≤ 10
+  pub of-table : inTable (r .answer) ≡ true
   pub leaves : (r .answer ≡ 0 → ⊥) → after ≡ before
   pub no-value : (r .answer ≡ 0 → ⊥) → (i : ℕ) → getD (r .values) i 0 ≡ 0
   pub no-place : (r .answer ≡ 10 → ⊥) → r .place ≡ 0
@@ -23,5 +30,5 @@ pub record Demand1 : Type 0 where
   pub every-call : {r : Told} {before after : Lent} → Made r before after → Refuses r before after
   -- a refused opening, or a refused read, gives the sheet of an opened one-mark class
   pub opening : (m : ℕ) → (openOf mostMarks entries m .number ≡ 0 → ⊥) → openOf mostMarks entries m .sheet ≡ sheetOf entries (opened 1)
-  pub reading : {t : List ℕ} {a : Read} → Reads mostMarks entries t a → (a .number ≡ 0 → ⊥) → a .sheet ≡ sheetOf entries (opened 1)
+  pub reading : (layout : Layout) {t : List ℕ} {a : Read} → ReadsBy layout mostMarks entries t a → (a .number ≡ 0 → ⊥) → a .sheet ≡ sheetOf entries (opened 1)
   pub reading-pla : {t : List ℕ} {a : Read} → ReadsPla mostMarks entries t a → (a .number ≡ 0 → ⊥) → a .sheet ≡ sheetOf entries (opened 1)

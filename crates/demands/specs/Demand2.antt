@@ -1,15 +1,15 @@
 -- DEMAND 2. The printed lines are a shortest orthogonal disjunctive normal form of the class, and among the shortest the first in our order; their
--- seconds add up to the class total.
+-- seconds add up to the class total. That they are exactly the class means: they contain every combination that is in, and none that is out (02, Q-6).
 use Prim.Native.Nat.{ℕ, _-_, _^_, _≤_}
 use mathlib.Core.Path.{_≡_}
-use mathlib.Core.Bool.{Bool}
 use mathlib.Core.List.{List, _++_}
 use lib.ListN.{length, drop}
 use Rattle.boxes.specs.Sums.{sumOver}
 use Rattle.tables.specs.Tables.{entry}
-use Rattle.lists.specs.Lists.{LowRising, FirstShortest}
+use Rattle.lists.specs.Lists.{covered, LowRising, FirstShortest}
 use Rattle.lists.specs.Pottosin.{SmallestMaximal}
 use Rattle.sheet.specs.Limits.{mostMarks}
+use Rattle.sheet.specs.Record.{Record, inClass, notOut, NoneEither}
 use Rattle.sheet.specs.Sound.{ClassReady, recordOf}
 use Rattle.sheet.specs.declared.Sheet.{Sheet}
 use Rattle.sheet.specs.declared.Value.{Value}
@@ -17,22 +17,24 @@ use Rattle.listing.specs.Listing.{totalOf, Listed, Totalled}
 use Rattle.vault.specs.Entries.{Holds, Lends}
 use Rattle.vault.specs.declared.Reply.{Reply}
 
--- the lines of a class of m marks
-pub record Lines (m : ℕ) (class : ℕ → Bool) (l : List ℕ) : Type 0 where
-  -- no two share a combination, together they are exactly the class, no such list is shorter, and it is the first of the shortest
-  pub right : FirstShortest m class class l
-  -- in rising order of each line's lowest combination
-  pub rising : LowRising m l
+-- the lines of a record
+pub record Lines (r : Record) (l : List ℕ) : Type 0 where
+  -- no two share a combination, together they contain the class and nothing that is out, no such list is shorter, and it is the first of the shortest
+  pub right : FirstShortest (r .marks) (inClass r) (notOut r) l
   -- it is one list
-  pub one : (k : List ℕ) → FirstShortest m class class k → k ≡ l
-  -- a smallest maximal independent set in the graph of all boxes inside the class: Pottosin's form
-  pub form : SmallestMaximal m class l
-  pub few : length l ≤ 2 ^ (m - 1)
+  pub one : (k : List ℕ) → FirstShortest (r .marks) (inClass r) (notOut r) k → k ≡ l
+  pub few : length l ≤ 2 ^ (r .marks - 1)
+  -- where no combination is either, together they are exactly the class,
+  pub exactly : NoneEither r → (c : ℕ) → covered (r .marks) l c ≡ inClass r c
+  -- in rising order of each line's lowest combination,
+  pub rising : NoneEither r → LowRising (r .marks) l
+  -- and a smallest maximal independent set in the graph of all boxes inside the class: Pottosin's form
+  pub form : NoneEither r → SmallestMaximal (r .marks) (inClass r) l
 
 -- what `list` gave of the sheet s, in the area lent for it
 pub record Printed (s : Sheet) (area : List ℕ) (v : Value) (later : List ℕ) : Type 0 where
   pub lines : List ℕ
-  pub of-class : Lines (s .marks) (recordOf s .class) lines
+  pub of-class : Lines (recordOf s) lines
   pub size : v .value ≡ length lines
   pub stands : later ≡ lines ++ drop (length lines) area
   -- what the sheet keeps of the lines adds up to what `total` answers

@@ -1,5 +1,5 @@
 -- DEMAND 3. After every sequence of calls each kept number equals the one worked out afresh from the accepted calls, and so do list and total.
--- What is worked out afresh is that of a record of marks, class and times (histories): no kept number is in it.
+-- What is worked out afresh is that of a record of marks, standings and times (histories): no kept number is in it.
 use Prim.Native.Nat.{ℕ, _^_, _≤_, _<_}
 use mathlib.Core.Path.{_≡_}
 use mathlib.Core.List.{List}
@@ -8,7 +8,7 @@ use Rattle.boxes.specs.Boxes.{contains, sumIn}
 use Rattle.boxes.specs.Sums.{sum, only}
 use Rattle.tables.specs.Tables.{entry}
 use Rattle.sheet.specs.Limits.{mostMarks, entries}
-use Rattle.sheet.specs.Record.{Record, Table, kept, quantity, opened}
+use Rattle.sheet.specs.Record.{Record, inClass, Table, kept, quantity, opened}
 use Rattle.sheet.specs.Sound.{sizeOf}
 use Rattle.sheet.specs.Calls.{openOf, didOf, moveOf, ClassSize}
 use Rattle.sheet.specs.Promises.{Altered}
@@ -16,8 +16,10 @@ use Rattle.sheet.specs.declared.Call.{Call}
 use Rattle.sheet.specs.declared.Sheet.{Sheet}
 use Rattle.sheet.specs.declared.Value.{Value}
 use Rattle.listing.specs.Listing.{totalOf, Listed, Totalled}
-use Rattle.stored.specs.Fields.{Bytes, good, Reading}
-use Rattle.stored.specs.Answers.{Reads}
+use Rattle.stored.specs.Fields.{Bytes, good, ReadingBy, Reading}
+use Rattle.stored.specs.Answers.{ReadsBy}
+use Rattle.stored.specs.declared.Layout.{Layout}
+use Rattle.stored.specs.declared.Layout.the-variants.{First}
 use Rattle.stored.specs.declared.Read.{Read}
 use Rattle.pla.specs.Reading.{PlaSays}
 use Rattle.pla.specs.Answers.{ReadsPla}
@@ -27,11 +29,12 @@ use Rattle.vault.specs.Entries.{replied, Put, ChangesBy, Tells, Lends, KeptAt, 
 use Rattle.vault.specs.Sequences.{Entry, Serves, entryNumber, afterEntry}
 use Rattle.vault.specs.declared.Reply.{Reply}
 
--- how a history begins, and with which record: with an opened sheet, with what was read, or with what a PLA text draws (a refused one gives the sheet of
--- `opening 1`: `demand-1`)
+-- how a history begins, and with which record: with an opened sheet, with what was read, of today's form or 01's, or with what a PLA text draws (a refused
+-- one gives the sheet of `opening 1`: `demand-1`)
 pub data Begins : Sheet → Record → Type 0 where
   opening : (m : ℕ) → openOf mostMarks entries m .number ≡ 0 → Begins (openOf mostMarks entries m .sheet) (opened m)
-  reading : {t : List ℕ} {a : Read} {r : Record} → Bytes t → Reads mostMarks entries t a → Reading mostMarks t (good r) → Begins (a .sheet) r
+  reading : (layout : Layout) {t : List ℕ} {a : Read} {r : Record} → Bytes t → ReadsBy layout mostMarks entries t a → ReadingBy layout mostMarks t (good r)
+      → Begins (a .sheet) r
   drawing : {t : List ℕ} {a : Read} {r : Record} → ReadsPla mostMarks entries t a → PlaSays mostMarks t (good r) → Begins (a .sheet) r
 
 -- the sheet is the one worked out afresh from the record r: of each box it keeps the sum over the box's combinations, in the entries of no box 0; and
@@ -42,7 +45,7 @@ pub record WorkedOut (r : Record) (s : Sheet) : Type 0 where
   pub above : (t : Table) (b : ℕ) → 3 ^ r .marks ≤ b → entry (kept t s) b ≡ 0
   pub list : {area later : List ℕ} {v : Value} → 2 ^ r .marks ≤ length area → Listed mostMarks s area v later → Given r area v later
   pub total : {v : Value} → Totalled mostMarks s v → v ≡ record { number = 0; value = totalOf r }
-  pub class-size : {v : Value} → ClassSize mostMarks s v → v ≡ record { number = 0; value = sizeOf (r .marks) (r .class) }
+  pub class-size : {v : Value} → ClassSize mostMarks s v → v ≡ record { number = 0; value = sizeOf (r .marks) (inClass r) }
 
 -- the same through the entries for C, of a sheet in bytes
 
@@ -50,6 +53,8 @@ pub data BeginsIn : List ℕ → Record → Type 0 where
   opening : (m : ℕ) {out later : List ℕ} {reply : Reply} → Put (openOf mostMarks entries m) out reply later → reply .answer ≡ 0
       → BeginsIn (take (reply .value) later) (opened m)
   reading : {t : List ℕ} {r : Record} → Bytes t → Reading mostMarks t (good r) → BeginsIn t r
+  converting : {t out later : List ℕ} {reply : Reply} {r : Record} → Bytes t → ChangesBy (ReadsBy First mostMarks entries t) same out reply later
+      → reply .answer ≡ 0 → ReadingBy First mostMarks t (good r) → BeginsIn (take (reply .value) later) r
   drawing : {t out later : List ℕ} {reply : Reply} {r : Record} → ChangesBy (ReadsPla mostMarks entries t) same out reply later → reply .answer ≡ 0
       → PlaSays mostMarks t (good r) → BeginsIn (take (reply .value) later) r
 
@@ -59,7 +64,7 @@ pub record WorkedOutIn (r : Record) (t : List ℕ) : Type 0 where
   pub list : {area later : List ℕ} {reply : Reply} → 2 ^ r .marks ≤ length area → Lends (Listed mostMarks) t area reply later
       → (reply .place ≡ 0) × Given r area (record { number = reply .answer; value = reply .value }) later
   pub total : {reply : Reply} → Tells (Totalled mostMarks) t reply → reply ≡ replied 0 (totalOf r)
-  pub class-size : {reply : Reply} → Tells (ClassSize mostMarks) t reply → reply ≡ replied 0 (sizeOf (r .marks) (r .class))
+  pub class-size : {reply : Reply} → Tells (ClassSize mostMarks) t reply → reply ≡ replied 0 (sizeOf (r .marks) (inClass r))
 
 pub record Demand3 : Type 0 where
   -- every sequence of calls, refused ones among them: the numbers answered, and the sheet at the end
@@ -72,7 +77,7 @@ pub record Demand3 : Type 0 where
   pub entries : {t z : List ℕ} {r : Record} {es : List Entry} {ns : List ℕ} → BeginsIn t r → Serves t es ns z
       → (ns ≡ numbersOf entryNumber afterEntry r es) × WorkedOutIn (afterAll afterEntry r es) z
   -- one accepted change, of whatever sheet, alters the numbers of exactly the boxes that contain its combination, each of them, and no other
-  pub alters : (s : Sheet) (k : Call) → didOf mostMarks s k .number ≡ 0 → Altered (moveOf k) s (didOf mostMarks s k .sheet)
+  pub alters : (s : Sheet) (k : Call) → didOf mostMarks s k .number ≡ 0 → Altered (moveOf s k) s (didOf mostMarks s k .sheet)
   -- and these are 2^m
   pub touched : (s : Sheet) (k : Call) → didOf mostMarks s k .number ≡ 0
-      → sum (3 ^ s .marks) (λ b. only (contains (s .marks) b (moveOf k .at)) 1) ≡ 2 ^ s .marks
+      → sum (3 ^ s .marks) (λ b. only (contains (s .marks) b (moveOf s k .at)) 1) ≡ 2 ^ s .marks

@@ -64,9 +64,10 @@ pub record Months : Type 0 where
   pub eleven : (h : History) (d : Date) (c : Call) → dateOk (h .year) (lastDate h) d ≡ false → bookingNumber h (on d c) ≡ 11
   pub not-eleven : (h : History) (d : Date) (c : Call) → dateOk (h .year) (lastDate h) d ≡ true → bookingNumber h (on d c) ≡ numberOf (recordNow h) c
   pub refused : (h : History) (x : Booking) → (bookingNumber h x ≡ 0 → ⊥) → afterBooking h x ≡ h
-  -- by which numbers line 1, line 2 and a later line can be refused
+  -- by which numbers line 1, line 2 and, in a session, a later line can be refused
   pub heard-1 : {k : ℕ} {row : Row} {t : State} {text : List ℕ} → Step k first row t text → Hears IsPage k inLine1 text
   pub heard-2 : {k y : ℕ} {row : Row} {t : State} {text : List ℕ} → Step k (named y) row t text → Hears IsPage k desk.inLine1 text
-  pub heard : {k : ℕ} {b : Bool} {h : History} {row : Row} {t : State} {text : List ℕ} → Step k (going b h) row t text → Hears IsPage k inLaterLine text
+  pub heard : {input : List ℕ} {k : ℕ} {b : Bool} {h : History} {row : Row} {t : State} {text : List ℕ} → HasBooked input h → Step k (going b h) row t text
+      → Hears IsPage k inLaterLine text
   -- the calendar: what is known of leap years and of the days of months and years
   pub calendar : Known

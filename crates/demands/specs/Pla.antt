@@ -3,14 +3,15 @@ use Prim.Native.Nat.{ℕ, _-_, _/_, _%_, _^_, _<_}
 use mathlib.Core.Path.{_≡_}
 use mathlib.Core.List.{List, [], _++_}
 use mathlib.Core.Logic.{_⊎_}
-use mathlib.Core.Bool.{true}
+use mathlib.Core.Bool.{true, _&&_, _||_}
 use lib.Dec.{eqb}
 use lib.ListN.{length, getD, take, drop}
 use Rattle.ground.specs.Decides.{Decides}
 use Rattle.print.specs.Texts.{sign}
 use Rattle.tables.specs.Tables.{entry}
+use Rattle.lists.specs.Lists.{covered}
 use Rattle.sheet.specs.Limits.{mostMarks, entries, marksOk}
-use Rattle.sheet.specs.Record.{Record, sheetOf}
+use Rattle.sheet.specs.Record.{isEither, Record, inClass, NoneEither, sheetOf}
 use Rattle.sheet.specs.Sound.{recordOf}
 use Rattle.sheet.specs.declared.Sheet.{Sheet}
 use Rattle.sheet.specs.declared.Value.{Value}
@@ -30,26 +31,28 @@ use Rattle.demands.specs.Demand2.{Lines}
 -- the sheet that the text t draws
 pub record DrawnFrom (t : List ℕ) (s : Sheet) : Type 0 where
   pub marks : marksOk mostMarks (s .marks) ≡ true
-  -- a combination is in the class exactly if some cube line contains it
-  pub class : (c : ℕ) → Decides (recordOf s .class c) (Drawn (s .marks) c (linesOf t))
+  -- a combination is in the class exactly if some cube line contains it, and no other is either
+  pub class : (c : ℕ) → Decides (inClass (recordOf s) c) (Drawn (s .marks) c (linesOf t))
+  pub others : NoneEither (recordOf s)
   pub nothing-held : (b : ℕ) → entry (s .held) b ≡ 0
   -- its numbers are those worked out from what the text says
   pub sheet : {r : Record} → PlaSays mostMarks t (good r) → s ≡ sheetOf entries r
 
--- what was read back of the sheet s: its marks and its class, and nothing held
-pub record GivesBack (s : Sheet) (a : Read) : Type 0 where
+-- what was read back of these lines of the sheet s: its marks, its class together with the either combinations of the lines, and nothing held
+pub record GivesBack (s : Sheet) (lines : List ℕ) (a : Read) : Type 0 where
   pub done : a .number ≡ 0
   pub marks : a .sheet .marks ≡ s .marks
-  pub class : (c : ℕ) → recordOf (a .sheet) .class c ≡ recordOf s .class c
+  pub class : (c : ℕ) → inClass (recordOf (a .sheet)) c ≡ (inClass (recordOf s) c || (isEither (recordOf s .standing c) && covered (s .marks) lines c))
+  pub others : NoneEither (recordOf (a .sheet))
   pub nothing-held : (b : ℕ) → entry (a .sheet .held) b ≡ 0
 
 -- what the writer gave of the sheet s, in the bytes lent for it: the text of demand 2's lines
 pub record WrittenAs (s : Sheet) (out : List ℕ) (v : Value) (later : List ℕ) : Type 0 where
   pub lines : List ℕ
-  pub of-class : Lines (s .marks) (recordOf s .class) lines
+  pub of-class : Lines (recordOf s) lines
   pub size : v .value ≡ length (plaText (s .marks) lines)
   pub stands : later ≡ plaText (s .marks) lines ++ drop (length (plaText (s .marks) lines)) out
-  pub back : {a : Read} → ReadsPla mostMarks entries (take (v .value) later) a → GivesBack s a
+  pub back : {a : Read} → ReadsPla mostMarks entries (take (v .value) later) a → GivesBack s lines a
 
 -- the same through C: of a text that was read the bytes written are the drawn sheet's form; of a sheet in bytes the text is written
 pub record DrawnIn (t out : List ℕ) (r : Reply) (later : List ℕ) : Type 0 where
@@ -76,11 +79,11 @@ pub record Pla : Type 0 where
   pub entry-read : {t out later : List ℕ} {r : Reply} → ChangesBy (ReadsPla mostMarks entries t) same out r later → r .answer ≡ 0 → DrawnIn t out r later
   -- a text that is refused changes no lent byte
   pub refused : {t out later : List ℕ} {r : Reply} → ChangesBy (ReadsPla mostMarks entries t) same out r later → (r .answer ≡ 0 → ⊥) → later ≡ out
-  -- the writer gives the shortest list in our order, and reading it back gives the class
+  -- the writer gives the shortest list in our order, and reading it back gives the class, with the either combinations of its lines (02, Q-6)
   pub written : {s : Sheet} {out later : List ℕ} {v : Value} → WritesPla mostMarks s out v later → v .number ≡ 0 → WrittenAs s out v later
   pub entry-written : {t out later : List ℕ} {r : Reply} → Lends (WritesPla mostMarks) t out r later → r .answer ≡ 0 → WrittenIn t out r later
   -- 7 as the list does, and then 5 exactly if the text is longer than the room
   pub seven : {s : Sheet} {out later area after : List ℕ} {v w : Value} → WritesPla mostMarks s out v later → Listed mostMarks s area w after
       → (v .number ≡ 7 → w .number ≡ 7) × (w .number ≡ 7 → v .number ≡ 7)
   pub five : {s : Sheet} {out later l : List ℕ} {v : Value} → WritesPla mostMarks s out v later → (v .number ≡ 7 → ⊥)
-      → Lines (s .marks) (recordOf s .class) l → Decides (eqb (v .number) 5) (length out < length (plaText (s .marks) l))
+      → Lines (recordOf s) l → Decides (eqb (v .number) 5) (length out < length (plaText (s .marks) l))

@@ -297,7 +297,7 @@ pub drawn-times : {most : ℕ} {t : List ℕ} {r : Record} → PlaSays most t (g
 drawn-times p c = ap (λ (x : Record). x .times c) (text-draws p .is)
 
 -- what is in the class of a record that has no either combinations
-in-alone : (e : Bool) → isIn (cond e In Out) ≡ e
+pub in-alone : (e : Bool) → isIn (cond e In Out) ≡ e
 in-alone true = refl
 in-alone false = refl
 

@@ -43,7 +43,10 @@ fn tests_apart(m: usize, k: u64) -> u64 {
 fn seen(answer: Answer, k: u64) -> u64 {
     let sheet = answer.sheet;
     let b = (k % 243) as usize;
-    answer.number ^ ground::wide(sheet.outside[b]) ^ ground::wide(sheet.held[b])
+    answer.number
+        ^ ground::wide(sheet.outside[b])
+        ^ ground::wide(sheet.either[b])
+        ^ ground::wide(sheet.held[b])
 }
 
 // Reads a form, whose last seconds are others in each turn.

@@ -7,9 +7,9 @@ use native.Mathlib.Omega.{arith}
 use lib.ListN.{length, getD}
 use Rattle.tables.proofs.Entries.{tab-length}
 use Rattle.sheet.specs.Limits.{mostMarks, entries}
-use Rattle.sheet.specs.Record.{Record, Table, outside-counts, held-seconds, kept, opened, sheetOf}
+use Rattle.sheet.specs.Record.{Record, inClass, Table, outside-counts, either-counts, held-seconds, kept, opened, sheetOf}
 use Rattle.sheet.specs.Promises.{Long}
-use Rattle.sheet.specs.Sound.{Ready, classOf, sizeOf, recordOf}
+use Rattle.sheet.specs.Sound.{Ready, sizeOf, recordOf}
 use Rattle.sheet.specs.Calls.{ClassSize}
 use Rattle.sheet.proofs.Keeps.{class-of-ready}
 use Rattle.listing.specs.Listing.{totalOf, Listed, Totalled}
@@ -17,7 +17,8 @@ use Rattle.pla.specs.Answers.{WritesPla}
 use Rattle.sheet.specs.declared.Sheet.{Sheet}
 use Rattle.sheet.specs.declared.Answer.{Answer}
 use Rattle.sheet.specs.declared.Value.{Value}
-use Rattle.stored.specs.Answers.{readOf, Reads, Writes}
+use Rattle.stored.specs.Answers.{readOf, ReadsBy, Reads, Writes}
+use Rattle.stored.specs.declared.Layout.{Layout}
 use Rattle.stored.specs.Fields.{Outcome, good, refused}
 use Rattle.stored.specs.declared.Read.{Read}
 use Rattle.stored.proofs.Trips.{read-sound}
@@ -74,7 +75,7 @@ laid-pla {s = s} {area} {later} {v} e x = subst (λ (w : Wanted). LaidAs w s are
 
 -- what a sound sheet answers
 
-pub size-answered : {s : Sheet} {n : ℕ} {v : Value} → Ready mostMarks s → n ≡ sizeOf (s .marks) (classOf (s .marks) (s .outside)) → v ≡ record { number = 0; value = n } → ClassSize mostMarks s v
+pub size-answered : {s : Sheet} {n : ℕ} {v : Value} → Ready mostMarks s → n ≡ sizeOf (s .marks) (inClass (recordOf s)) → v ≡ record { number = 0; value = n } → ClassSize mostMarks s v
 size-answered {s} ready e f = subst (ClassSize mostMarks s) (sym (f ∙ ap (λ (x : ℕ). record { number = 0; value = x }) e)) (ClassSize.told (class-of-ready ready))
 
 pub total-answered : {s : Sheet} {n : ℕ} {v : Value} → Ready mostMarks s → n ≡ totalOf (recordOf s) → v ≡ record { number = 0; value = n } → Totalled mostMarks s v
@@ -94,6 +95,7 @@ holds-long {t} {a} x = subst (λ (y : Read). Long entries (y .sheet)) (sym (x .i
   where
     afresh-long : (r : Record) (k : Table) → length (kept k (sheetOf entries r)) ≡ entries
     afresh-long r outside-counts = tab-length entries _
+    afresh-long r either-counts = tab-length entries _
     afresh-long r held-seconds = tab-length entries _
 
     long : (o : Outcome) → Long entries (readOf entries o .sheet)
@@ -101,8 +103,8 @@ holds-long {t} {a} x = subst (λ (y : Read). Long entries (y .sheet)) (sym (x .i
     long (refused n p) = afresh-long (opened 1)
 
 -- and is sound
-pub holds-ready : (t : List ℕ) {a : Read} → ((i : ℕ) → getD t i 0 < 256) → Reads mostMarks entries t a → Ready mostMarks (a .sheet)
-holds-ready t b x = read-sound mostMarks entries (omega arith) (omega arith) t b x
+pub holds-ready : (layout : Layout) (t : List ℕ) {a : Read} → ((i : ℕ) → getD t i 0 < 256) → ReadsBy layout mostMarks entries t a → Ready mostMarks (a .sheet)
+holds-ready layout t b x = read-sound mostMarks entries (omega arith) layout (omega arith) t b x
 
 -- an answer that is known
 pub put-as : {a z : Answer} (out : List ℕ) {r : Reply} {later : List ℕ} → a ≡ z → Put a out r later → Put z out r later

@@ -30,7 +30,7 @@ use Rattle.vault.specs.Sequences.{Entry, changing, copying, lentTo, call
 
 reads-form : (r : Record) → Good r → {a : Read} → Reads mostMarks entries (form r) a → a ≡ readOf entries (good r)
 reads-form r g {a} x =
-    form-same-sheet 5 entries five (omega arith) r (g .marks) (g .times) (subst (λ (t : List ℕ). Reads mostMarks entries t a) (sym (form-kept r g)) x)
+    form-same-sheet 5 entries five (omega arith) r (record { marks = g .marks; most-held = g .times; apart = g .apart }) (subst (λ (t : List ℕ). Reads mostMarks entries t a) (sym (form-kept r g)) x)
 
 -- the bytes of a record hold its sheet
 pub holds-record : (r : Record) → Good r → {s : Sheet} → Holds (form r) s → s ≡ sheetOf entries r

@@ -1,6 +1,7 @@
 -- The bytes hold a sound sheet, which the call keeps sound, or none.
 use mathlib.Core.Path.{sym, subst}
 use borrow.Author.Needs.{needs}
+use Rattle.stored.specs.declared.Layout.the-variants.{Today}
 use Rattle.sheet.specs.Limits.{mostMarks}
 use Rattle.sheet.specs.Sound.{Ready}
 use Rattle.sheet.specs.declared.Answer.{Answer}
@@ -17,7 +18,7 @@ returns c = unread (holds-none noReply _ (c .before .before .before .read .ensur
 put-requires : tie.Need-put-requires
 put-requires c κs =
     let read = c .before .before .before .before .before .read .ensures in
-    let ready = holds-ready _ (λ i. c .before .before .before .before .before .before .before .shared-slice-known .given i .fits) read in
+    let ready = holds-ready Today _ (λ i. c .before .before .before .before .before .before .before .shared-slice-known .given i .fits) read in
     subst (λ (a : Answer). Ready mostMarks (a .sheet)) (sym (c .before .did .ensures)) (ready-kept _ (holds-long read) (c .before .before .before .before .before .before .before .before .args .call) ready)
 
 returns-2 : tie.Need-returns-2

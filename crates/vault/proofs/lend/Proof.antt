@@ -1,5 +1,6 @@
 -- The bytes hold a sound sheet, or none.
 use borrow.Author.Needs.{needs}
+use Rattle.stored.specs.declared.Layout.the-variants.{Today}
 use Rattle.sheet.proofs.Keeps.{class-of-ready}
 use Rattle.vault.specs.Entries.Lends.{unread}
 use Rattle.vault.specs.Parts.{LaidAs}
@@ -12,7 +13,7 @@ returns : tie.Need-returns
 returns c = unread (holds-none noReply _ (c .before .before .before .read .ensures) (c .before .if1 .taken) (c .unread .ensures))
 
 lay-requires : tie.Need-lay-requires
-lay-requires c κs = class-of-ready (holds-ready _ (λ i. c .before .before .before .before .before .before .shared-slice-known .given i .fits) (c .before .before .before .before .read .ensures))
+lay-requires c κs = class-of-ready (holds-ready Today _ (λ i. c .before .before .before .before .before .before .shared-slice-known .given i .fits) (c .before .before .before .before .read .ensures))
 
 returns-2 : tie.Need-returns-2
 returns-2 c =

@@ -1,5 +1,6 @@
 -- The bytes hold a sound sheet, which answers, or none.
 use borrow.Author.Needs.{needs}
+use Rattle.stored.specs.declared.Layout.the-variants.{Today}
 use Rattle.vault.specs.Entries.TellsAs.{unread}
 use Rattle.vault.specs.Parts.{AnswerTo}
 use Rattle.vault.specs.Entries.{noReply, valued}
@@ -11,7 +12,7 @@ returns : tie.Need-returns
 returns c = unread (holds-none noReply _ (c .before .before .before .read .ensures) (c .before .if1 .taken) (c .unread .ensures))
 
 answer-requires : tie.Need-answer-requires
-answer-requires c κs = holds-ready _ (λ i. c .before .before .before .before .shared-slice-known .given i .fits) (c .before .before .before .read .ensures)
+answer-requires c κs = holds-ready Today _ (λ i. c .before .before .before .before .shared-slice-known .given i .fits) (c .before .before .before .read .ensures)
 
 returns-2 : tie.Need-returns-2
 returns-2 c =

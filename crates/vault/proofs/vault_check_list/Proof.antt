@@ -1,5 +1,6 @@
 -- The bytes hold a sound sheet, for which the list is judged, or none.
 use borrow.Author.Needs.{needs}
+use Rattle.stored.specs.declared.Layout.the-variants.{Today}
 use Rattle.sheet.specs.Limits.{mostMarks}
 use Rattle.sheet.proofs.Keeps.{class-of-ready}
 use Rattle.checking.specs.Answers.{Checked, verdictOf}
@@ -13,7 +14,7 @@ returns : tie.Need-returns
 returns c = unread (holds-none noVerdict _ (c .before .before .before .read .ensures) (c .before .if1 .taken) (c .unjudged .ensures))
 
 check-sound-requires : tie.Need-check-sound-requires
-check-sound-requires c κs = class-of-ready (holds-ready _ (λ i. c .before .before .before .before .before .shared-slice-known .given i .fits) (c .before .before .before .read .ensures))
+check-sound-requires c κs = class-of-ready (holds-ready Today _ (λ i. c .before .before .before .before .before .shared-slice-known .given i .fits) (c .before .before .before .read .ensures))
 
 returns-2 : tie.Need-returns-2
 returns-2 c =

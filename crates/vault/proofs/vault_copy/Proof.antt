@@ -1,11 +1,12 @@
 -- The bytes hold a sound sheet, which is written again, or none.
 use borrow.Author.Needs.{needs}
+use Rattle.stored.specs.declared.Layout.the-variants.{Today}
 use Rattle.vault.proofs.Replies.{holds-ready, changes-read}
 use Rattle.vault.proofs.vault_copy.Statement.{statement}
 use Rattle.vault.proofs.vault_copy.Tie as tie
 
 rewritten-requires : tie.Need-rewritten-requires
-rewritten-requires c κs = holds-ready _ (λ i. c .before .before .before .shared-slice-known .given i .fits) (c .before .read .ensures)
+rewritten-requires c κs = holds-ready Today _ (λ i. c .before .before .before .shared-slice-known .given i .fits) (c .before .read .ensures)
 
 returns : tie.Need-returns
 returns c = changes-read (c .before .before .before .before .read .ensures) (c .before .before .rewritten .ensures)
