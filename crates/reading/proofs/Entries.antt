@@ -6,22 +6,22 @@ use mathlib.Core.List.{List}
 use native.Mathlib.Nat.{one-le-pow}
 use native.Mathlib.Numerals.{sub-one}
 use native.Mathlib.Omega.{arith}
+use lib.Dec.{eqb}
 use lib.ListN.{length, drop, set, length-set}
-use borrow.Author.Tests.{le-leb, lt-leb, lt-ltb, le-ltb}
+use borrow.Author.Tests.{le-leb, lt-leb, lt-ltb, le-ltb, eq-eqb, ne-eqb}
 use Rattle.ground.proofs.Cases.{below-or, same-or, clash}
 use Rattle.tables.specs.Tables.{entry}
 use Rattle.sheet.specs.Limits.{mostMarks, mostHeld}
 use Rattle.sheet.specs.Record.{Record}
-use Rattle.stored.specs.Sections.{bytesBehind, heldIn, added}
-use Rattle.stored.specs.Parts.{unset}
+use Rattle.stored.specs.Sections.{bytesBehind, takes, heldIn, added}
 use Rattle.stored.specs.Fields.{Next, due, count, combination, behind, sectionsDue, entriesDue, judge, refused, Run}
 use Rattle.stored.specs.declared.Section.{Section}
 use Rattle.stored.proofs.Sections.{held-more}
-use Rattle.reading.specs.Parts.{FieldRead, Leads, least, withOwn, ReadBefore, Got, PartRead, bad, good}
+use Rattle.reading.specs.Parts.{FieldRead, Leads, least, hasIn, withOwn, ReadBefore, Got, PartRead, bad, good}
 use Rattle.reading.specs.declared.fields.Field.{Field}
 use Rattle.reading.specs.declared.sections.Part.{Part}
-use Rattle.reading.proofs.Offsets.{start as at-start, then, then-run, field-inside, field-number, field-taken, field-wrong}
-use Rattle.reading.proofs.Own.{own-marks, own-start, set-here, set-other, own-added, own-none, unset-most, may-stand, may-not, own-most}
+use Rattle.reading.proofs.Offsets.{start as at-start, then, then-run, field-inside, field-number, field-taken, field-wrong, field-barred}
+use Rattle.reading.proofs.Own.{own-marks, own-start, set-here, set-other, own-added, own-none, own-takes, may-stand, may-not, own-most}
 
 -- a combination is due where some are left, and the next section where none is
 entries-some : (s : Section) (rest : List Section) (r : Record) (left low : ℕ) → 0 < left → entriesDue s rest r left low ≡ due (combination s rest r (left - 1) low)
@@ -55,14 +55,22 @@ module _ {t : List ℕ} {at low m : ℕ} {f : Field} (s : Section) (rest : List 
   top : (2 ^ r .marks ≡ 2 ^ m) × (1 ≤ 2 ^ m)
   top = (ap (λ (x : ℕ). 2 ^ x) em, one-le-pow m 2 (omega arith))
 
-  pub combination-taken : f .good ≡ true → Leads t (entriesDue s rest r left low) at (due (behind s rest r (left - 1) (f .number))) (f .at)
+  pub combination-taken : f .good ≡ true → takes s r (f .number) ≡ true → Leads t (entriesDue s rest r left low) at (due (behind s rest r (left - 1) (f .number))) (f .at)
   unfolding judge
-  combination-taken g =
+  combination-taken g ok =
       let n = field-number v g in
       let e = top in
       rw (entries-some s rest r left low some)
       (field-taken (combination s rest r (left - 1) low) refl v g (due (behind s rest r (left - 1) (f .number)))
-      (rw (le-leb low (f .number) (n .1), lt-ltb (f .number) (2 ^ r .marks) (omega arith))))
+      (rw (le-leb low (f .number) (n .1), lt-ltb (f .number) (2 ^ r .marks) (omega arith), ok)))
+
+  pub combination-barred : f .good ≡ true → takes s r (f .number) ≡ false → Run mostMarks (entriesDue s rest r left low) at (drop at t) (refused 10 at)
+  unfolding judge
+  combination-barred g bar =
+      let n = field-number v g in
+      let e = top in
+      rw (entries-some s rest r left low some)
+      (field-barred (combination s rest r (left - 1) low) refl v g (rw (le-leb low (f .number) (n .1), lt-ltb (f .number) (2 ^ r .marks) (omega arith), bar)))
 
   pub combination-wrong : f .good ≡ false → at ≤ length t → Run mostMarks (entriesDue s rest r left low) at (drop at t) (refused 10 (f .at))
   unfolding judge
@@ -88,28 +96,32 @@ module _ {t : List ℕ} {at sum : ℕ} {f : Field} (s : Section) (rest : List Se
   behind-wrong g l = field-wrong (behind s rest r left c) refl v g l (λ x small n. rw (es, may-not s sum x h small n))
 
 -- What the loop keeps: it stands at the combinations from `low` on, `left` of them, with `sum` seconds so far.
-pub record EntriesReached (t : List ℕ) (s : Section) (m n start : ℕ) (own : List ℕ) (at low left sum : ℕ) : Type 0 where
-  pub got : Got t s m (λ (rest : List Section) (r : Record). entriesDue s rest r n 0) (λ (rest : List Section) (r : Record). entriesDue s rest r left low) start own at
-  pub clear : (c : ℕ) → low ≤ c → c < 2 ^ m → entry own c ≡ unset s
-  pub sum-is : (r : Record) → ReadBefore s m r → heldIn (withOwn s (entry own) r) ≡ sum
+pub record EntriesReached (t : List ℕ) (s : Section) (m : ℕ) (barred : List ℕ) (n start : ℕ) (own : List ℕ) (at low left sum : ℕ) : Type 0 where
+  pub got : Got t s m barred (λ (rest : List Section) (r : Record). entriesDue s rest r n 0) (λ (rest : List Section) (r : Record). entriesDue s rest r left low) start own at
+  pub clear : (c : ℕ) → low ≤ c → c < 2 ^ m → entry own c ≡ 0
+  pub sum-is : (r : Record) → ReadBefore s m barred r → heldIn (withOwn s (entry own) r) ≡ sum
   pub sum-most : sum ≤ mostHeld
 
-pub reached-none : (t : List ℕ) (s : Section) (m n start : ℕ) (own : List ℕ) → start ≤ length t → 2 ^ m ≤ length own → ((c : ℕ) → c < 2 ^ m → entry own c ≡ unset s)
-    → EntriesReached t s m n start own start 0 n 0
-reached-none t s m n start own inside long clear = record {
-  got = record {
-    inside = inside;
-    long = long;
-    most = λ c l. omega (arith, clear c l, unset-most s);
-    leads = λ rest r b. subst (λ (q : Record). Leads t (entriesDue s rest r n 0) start (entriesDue s rest q n 0) start) (sym (own-start s (entry own) b clear)) (at-start t (entriesDue s rest r n 0) start);
-  };
-  clear = λ c z l. clear c l;
-  sum-is = λ r b. ap heldIn (own-start s (entry own) b clear) ∙ b .nothing-held;
-  sum-most = omega arith;
-}
+-- nothing is read yet
+module _ (t : List ℕ) (s : Section) (m : ℕ) (barred : List ℕ) (own : List ℕ) (clear : (c : ℕ) → c < 2 ^ m → entry own c ≡ 0) where
+  as-before : (r : Record) → ReadBefore s m barred r → withOwn s (entry own) r ≡ r
+  as-before r b = own-start (entry own) {r = r} (λ c l. clear c (omega (arith, ap (λ (x : ℕ). 2 ^ x) (b .marks)))) s (b .none)
 
-module _ {t : List ℕ} {s : Section} {m n start : ℕ} {own : List ℕ} {at low left sum : ℕ} (v : EntriesReached t s m n start own at low left sum) where
-  pub reached-end : left ≡ 0 → Got t s m (λ (rest : List Section) (r : Record). entriesDue s rest r n 0) sectionsDue start own at
+  pub reached-none : (n start : ℕ) → start ≤ length t → 2 ^ m ≤ length own → EntriesReached t s m barred n start own start 0 n 0
+  reached-none n start inside long = record {
+    got = record {
+      inside = inside;
+      long = long;
+      most = λ c l. omega (arith, clear c l);
+      leads = λ rest r b. subst (λ (q : Record). Leads t (entriesDue s rest r n 0) start (entriesDue s rest q n 0) start) (sym (as-before r b)) (at-start t (entriesDue s rest r n 0) start);
+    };
+    clear = λ c z l. clear c l;
+    sum-is = λ r b. ap heldIn (as-before r b) ∙ b .nothing-held;
+    sum-most = omega arith;
+  }
+
+module _ {t : List ℕ} {s : Section} {m : ℕ} {barred : List ℕ} {n start : ℕ} {own : List ℕ} {at low left sum : ℕ} (v : EntriesReached t s m barred n start own at low left sum) where
+  pub reached-end : left ≡ 0 → Got t s m barred (λ (rest : List Section) (r : Record). entriesDue s rest r n 0) sectionsDue start own at
   reached-end e = record {
     inside = v .got .inside;
     long = v .got .long;
@@ -120,73 +132,91 @@ module _ {t : List ℕ} {s : Section} {m n start : ℕ} {own : List ℕ} {at low
 
   module _ {f : Field} (some : 0 < left) (read : FieldRead t at 1 low (2 ^ m - 1) f) where
     -- a wrong combination
-    pub entry-wrong : f .good ≡ false → (rest : List Section) (r : Record) → ReadBefore s m r → Run mostMarks (entriesDue s rest r n 0) start (drop start t) (refused 10 (f .at))
+    pub entry-wrong : f .good ≡ false → (rest : List Section) (r : Record) → ReadBefore s m barred r
+        → Run mostMarks (entriesDue s rest r n 0) start (drop start t) (refused 10 (f .at))
     entry-wrong g rest r b =
         then-run (v .got .leads rest r b) (combination-wrong s rest (withOwn s (entry own) r) left some (own-marks s (entry own) r ∙ b .marks) read g (v .got .inside))
 
-    module _ {x : Field} (g : f .good ≡ true) (next : FieldRead t (f .at) (bytesBehind s) (least s) (mostHeld - sum) x) where
-      -- where the number behind it is due
-      to-behind : (rest : List Section) (r : Record) → ReadBefore s m r
-          → Leads t (entriesDue s rest r n 0) start (due (behind s rest (withOwn s (entry own) r) (left - 1) (f .number))) (f .at)
-      to-behind rest r b =
-          then (v .got .leads rest r b) (combination-taken s rest (withOwn s (entry own) r) left some (own-marks s (entry own) r ∙ b .marks) read g)
-
-      pub number-wrong : x .good ≡ false → (rest : List Section) (r : Record) → ReadBefore s m r
-          → Run mostMarks (entriesDue s rest r n 0) start (drop start t) (refused 10 (x .at))
-      number-wrong w rest r b =
-          then-run (to-behind rest r b)
-          (behind-wrong s rest (withOwn s (entry own) r) (left - 1) (f .number) (v .sum-most) (v .sum-is r b) next w (field-inside read g))
-
-      pub reached-more : x .good ≡ true → EntriesReached t s m n start (set own (f .number) (x .number)) (x .at) (f .number + 1) (left - 1) (sum + x .number)
-      reached-more w =
-          let c = f .number in
-          let y = x .number in
-          let nc = field-number read g in
-          let ny = field-number next w in
+    module _ (g : f .good ≡ true) where
+      -- whether the section takes it
+      taken-by : (r : Record) → ReadBefore s m barred r → takes s (withOwn s (entry own) r) (f .number) ≡ eqb (entry barred (f .number)) 0
+      taken-by r b =
+          let k = field-number read g in
           let pos : 1 ≤ 2 ^ m = one-le-pow m 2 (omega arith) in
-          let c-m : c < 2 ^ m = omega arith in
-          let c-own : c < length own = omega (arith, v .got .long) in
-          let other : (z : ℕ) → (z ≡ c → ⊥) → entry (set own c y) z ≡ entry own z = set-other own c y c-own in
-          let most = own-most s sum y (v .sum-most) (ny .0) (ny .2) in
-          let same : (r : Record) → ReadBefore s m r → added s (withOwn s (entry own) r) c y ≡ withOwn s (entry (set own c y)) r =
-          λ r b. own-added own c y c-own s r (omega (arith, ap (λ (j : ℕ). 2 ^ j) (b .marks))) (ny .0) in
-          record {
-            got = record {
-              inside = field-inside next w;
-              long = omega (arith, length-set own c y, v .got .long);
-              most = λ z l. same-or z c
-                  (λ q. omega (arith, ap (entry (set own c y)) q, set-here own c y c-own, most))
-                  (λ q. omega (arith, other z q, v .got .most z l));
-              leads = λ rest r b.
-                  subst (λ (q : Record). Leads t (entriesDue s rest r n 0) start (entriesDue s rest q (left - 1) (c + 1)) (x .at)) (same r b)
-                  (then (to-behind rest r b) (behind-taken s rest (withOwn s (entry own) r) (left - 1) c (v .sum-most) (v .sum-is r b) next w));
-            };
-            clear = λ z lz l. other z (λ q. omega arith) ∙ v .clear z (omega arith) l;
-            sum-is = λ r b.
-                let inside : c < 2 ^ (withOwn s (entry own) r .marks) = omega (arith, ap (λ (j : ℕ). 2 ^ j) (own-marks s (entry own) r ∙ b .marks)) in
-                ap heldIn (sym (same r b))
-                ∙ held-more s (withOwn s (entry own) r) c y inside (own-none s (entry own) r c (v .clear c (nc .1) c-m)) (ny .0)
-                ∙ ap (λ (j : ℕ). j + y) (v .sum-is r b);
-            sum-most = omega (arith, v .sum-most);
-          }
+          let c-m : f .number < 2 ^ m = omega arith in
+          own-takes (entry own) r (f .number) (v .clear (f .number) (k .1) c-m) s ∙ b .taken (f .number) c-m
+
+      pub entry-barred : (entry barred (f .number) ≡ 0 → ⊥) → (rest : List Section) (r : Record) → ReadBefore s m barred r
+          → Run mostMarks (entriesDue s rest r n 0) start (drop start t) (refused 10 at)
+      entry-barred bar rest r b =
+          then-run (v .got .leads rest r b)
+          (combination-barred s rest (withOwn s (entry own) r) left some (own-marks s (entry own) r ∙ b .marks) read g (taken-by r b ∙ ne-eqb _ 0 bar))
+
+      module _ {x : Field} (ok : entry barred (f .number) ≡ 0) (next : FieldRead t (f .at) (bytesBehind s) (least s) (mostHeld - sum) x) where
+        -- where the number behind it is due
+        to-behind : (rest : List Section) (r : Record) → ReadBefore s m barred r
+            → Leads t (entriesDue s rest r n 0) start (due (behind s rest (withOwn s (entry own) r) (left - 1) (f .number))) (f .at)
+        to-behind rest r b =
+            then (v .got .leads rest r b)
+            (combination-taken s rest (withOwn s (entry own) r) left some (own-marks s (entry own) r ∙ b .marks) read g (taken-by r b ∙ eq-eqb _ 0 ok))
+
+        pub number-wrong : x .good ≡ false → (rest : List Section) (r : Record) → ReadBefore s m barred r
+            → Run mostMarks (entriesDue s rest r n 0) start (drop start t) (refused 10 (x .at))
+        number-wrong w rest r b =
+            then-run (to-behind rest r b)
+            (behind-wrong s rest (withOwn s (entry own) r) (left - 1) (f .number) (v .sum-most) (v .sum-is r b) next w (field-inside read g))
+
+        pub reached-more : x .good ≡ true
+            → EntriesReached t s m barred n start (set own (f .number) (hasIn s (x .number))) (x .at) (f .number + 1) (left - 1) (sum + x .number)
+        reached-more w =
+            let c = f .number in
+            let y = hasIn s (x .number) in
+            let nc = field-number read g in
+            let ny = field-number next w in
+            let pos : 1 ≤ 2 ^ m = one-le-pow m 2 (omega arith) in
+            let c-m : c < 2 ^ m = omega arith in
+            let c-own : c < length own = omega (arith, v .got .long) in
+            let other : (z : ℕ) → (z ≡ c → ⊥) → entry (set own c y) z ≡ entry own z = set-other own c y c-own in
+            let most = own-most s (x .number) (omega (arith, v .sum-most)) in
+            let same : (r : Record) → ReadBefore s m barred r → added s (withOwn s (entry own) r) c (x .number) ≡ withOwn s (entry (set own c y)) r =
+            λ r b. own-added own c (x .number) c-own s r (omega (arith, ap (λ (j : ℕ). 2 ^ j) (b .marks))) in
+            record {
+              got = record {
+                inside = field-inside next w;
+                long = omega (arith, length-set own c y, v .got .long);
+                most = λ z l. same-or z c
+                    (λ q. omega (arith, ap (entry (set own c y)) q, set-here own c y c-own, most))
+                    (λ q. omega (arith, other z q, v .got .most z l));
+                leads = λ rest r b.
+                    subst (λ (q : Record). Leads t (entriesDue s rest r n 0) start (entriesDue s rest q (left - 1) (c + 1)) (x .at)) (same r b)
+                    (then (to-behind rest r b) (behind-taken s rest (withOwn s (entry own) r) (left - 1) c (v .sum-most) (v .sum-is r b) next w));
+              };
+              clear = λ z lz l. other z (λ q. omega arith) ∙ v .clear z (omega arith) l;
+              sum-is = λ r b.
+                  let inside : c < 2 ^ (withOwn s (entry own) r .marks) = omega (arith, ap (λ (j : ℕ). 2 ^ j) (own-marks s (entry own) r ∙ b .marks)) in
+                  ap heldIn (sym (same r b))
+                  ∙ held-more s (withOwn s (entry own) r) c (x .number) inside (own-none (entry own) r c (v .clear c (nc .1) c-m) s (b .none c)) (ny .0)
+                  ∙ ap (λ (j : ℕ). j + x .number) (v .sum-is r b);
+              sum-most = omega (arith, v .sum-most);
+            }
 
 -- a part that is refused at a place
-pub part-stopped : {t : List ℕ} {s : Section} {m start : ℕ} {from : List Section → Record → Next} {p : Part} (place : ℕ) → (p .good ≡ false) × (p .at ≡ place)
-    → ((rest : List Section) (r : Record) → ReadBefore s m r → Run mostMarks (from rest r) start (drop start t) (refused 10 place)) → PartRead t s m from start p
+pub part-stopped : {t : List ℕ} {s : Section} {m start : ℕ} {barred : List ℕ} {from : List Section → Record → Next} {p : Part} (place : ℕ) → (p .good ≡ false) × (p .at ≡ place)
+    → ((rest : List Section) (r : Record) → ReadBefore s m barred r → Run mostMarks (from rest r) start (drop start t) (refused 10 place)) → PartRead t s m barred from start p
 part-stopped {p = p} place e w = bad {p = p} (e .0) (λ rest r b. rw (e .1) (w rest r b))
 
 -- a part behind what leads to it
-pub part-after : {t : List ℕ} {s : Section} {m at at₁ : ℕ} {from from₁ : List Section → Record → Next} {p : Part}
-    → ((rest : List Section) (r : Record) → ReadBefore s m r → Leads t (from rest r) at (from₁ rest r) at₁) → PartRead t s m from₁ at₁ p → PartRead t s m from at p
+pub part-after : {t : List ℕ} {s : Section} {m at at₁ : ℕ} {barred : List ℕ} {from from₁ : List Section → Record → Next} {p : Part}
+    → ((rest : List Section) (r : Record) → ReadBefore s m barred r → Leads t (from rest r) at (from₁ rest r) at₁) → PartRead t s m barred from₁ at₁ p → PartRead t s m barred from at p
 part-after l (bad e w) = bad e (λ rest r b. then-run (l rest r b) (w rest r b))
 part-after l (good e g) = good e (record { inside = g .inside; long = g .long; most = g .most; leads = λ rest r b. then (l rest r b) (g .leads rest r b) })
 
-module _ {t : List ℕ} {s : Section} {m start : ℕ} {from : List Section → Record → Next} {p : Part} where
-  pub part-bad : PartRead t s m from start p → p .good ≡ false → (rest : List Section) (r : Record) → ReadBefore s m r
+module _ {t : List ℕ} {s : Section} {m start : ℕ} {barred : List ℕ} {from : List Section → Record → Next} {p : Part} where
+  pub part-bad : PartRead t s m barred from start p → p .good ≡ false → (rest : List Section) (r : Record) → ReadBefore s m barred r
       → Run mostMarks (from rest r) start (drop start t) (refused 10 (p .at))
   part-bad (bad e w) g = w
   part-bad (good e w) g = clash e g
 
-  pub part-good : PartRead t s m from start p → p .good ≡ true → Got t s m from sectionsDue start (p .own) (p .at)
+  pub part-good : PartRead t s m barred from start p → p .good ≡ true → Got t s m barred from sectionsDue start (p .own) (p .at)
   part-good (bad e w) g = clash g e
   part-good (good e w) g = w

@@ -111,3 +111,10 @@ module _ {t : List ℕ} {at k low high : ℕ} {f : Field} where
     field-wrong (field-faulty e h small w p) g l judged =
         rw p (faulty-at t d at 10 (omega arith) (ap (λ (j : ℕ). judge mostMarks d (numberAt t at j)) wide ∙ judged (numberAt t at k) small w))
     field-wrong (fits e h n small low-n n-high p) g l judged = clash e g
+
+    -- a number within the limits, and wrong all the same
+    pub field-barred : FieldRead t at k low high f → f .good ≡ true → judge mostMarks d (f .number) ≡ wrong 10 → Run mostMarks (due d) at (drop at t) (refused 10 at)
+    field-barred (field-early e h p) g judged = clash g e
+    field-barred (field-faulty e h small w p) g judged = clash g e
+    field-barred (fits e h n small l u p) g judged =
+        faulty-at t d at 10 (omega arith) (ap (judge mostMarks d) (ap (numberAt t at) wide ∙ sym n) ∙ judged)

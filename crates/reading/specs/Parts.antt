@@ -87,5 +87,5 @@ SectionRead t s m barred start p = PartRead t s m barred (λ (rest : List Sectio
 
 -- the either section behind a class of these combinations; 01's layout has none
 abbrev pub EitherRead : List ℕ → Layout → ℕ → List ℕ → ℕ → Part → Type 0
-EitherRead t First m ins start p = (p .good ≡ true) × (p .at ≡ start) × ((c : ℕ) → entry (p .own) c ≡ 0) × (2 ^ m ≤ length (p .own))
+EitherRead t First m ins start p = (p .good ≡ true) × (p .at ≡ start) × ((c : ℕ) → c < 2 ^ m → entry (p .own) c ≡ 0) × (2 ^ m ≤ length (p .own))
 EitherRead t Today m ins start p = SectionRead t Either m ins start p
