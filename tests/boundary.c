@@ -559,6 +559,8 @@ static void listing_either(void)
         {5, 0x80000000, 0x7fffffff, 1, {121}},
         {5, 0x80000001, 0x7ffffffe, 1, {242}},
         {5, 0x00000000, 0xffffffff, 0, {0}},
+        /* 000's function that is not defined everywhere: 001-1, 01100, 1---0, 10011, as many lines as there */
+        {5, 0x544c10a0, 0xa333c31f, 4, {16, 36, 159, 85}},
     };
     uint8_t form[VAULT_FORM_SIZE];
     for (size_t i = 0; i < sizeof known / sizeof *known; i++) {

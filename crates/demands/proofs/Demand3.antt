@@ -110,10 +110,10 @@ pub pla-drawn : {t : List ℕ} {r : Record} → PlaSays mostMarks t (good r) →
 pla-drawn p a x = x .is ∙ ap (readOf entries) (says-one-outcome (x .run) p)
 
 -- what 01's form is read as
-first-read : {t : List ℕ} {r : Record} → ReadingBy First mostMarks t (good r) → (a : Read) → ReadsBy First mostMarks entries t a → a ≡ readOf entries (good r)
+pub first-read : {t : List ℕ} {r : Record} → ReadingBy First mostMarks t (good r) → (a : Read) → ReadsBy First mostMarks entries t a → a ≡ readOf entries (good r)
 first-read y a x = x .is ∙ ap (readOf entries) (one (x .run) y)
 
-begins-good : {s : Sheet} {r : Record} → Begins s r → Good r × (s ≡ sheetOf entries r)
+pub begins-good : {s : Sheet} {r : Record} → Begins s r → Good r × (s ≡ sheetOf entries r)
 begins-good (Begins.opening m z) =
     let e = open-accepted m z in (good-opened m e, sym (ap (λ (a : Answer). a .sheet) (open-done mostMarks entries m e)))
 begins-good (Begins.reading layout b x y) =

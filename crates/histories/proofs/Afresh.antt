@@ -60,7 +60,7 @@ module _ (r : Record) (good : Good r) where
   class-ready : ClassReady mostMarks (sheetOf entries r)
   class-ready = class-of-ready ready-afresh
 
-  out-above : (c : ℕ) → 2 ^ r .marks ≤ c → r .standing c ≡ Out
+  pub out-above : (c : ℕ) → 2 ^ r .marks ≤ c → r .standing c ≡ Out
   out-above c l = if (isOut (r .standing c)) (is-out (r .standing c)) (λ e. absurd (omega (arith, good .standing c e)))
 
   pub standing-afresh : recordOf (sheetOf entries r) .standing ≡ r .standing
