@@ -9,26 +9,19 @@ use lib.Dec.{ltb}
 use lib.ListN.{length, set}
 use lib.Seq.{getD-set-same, getD-set-other}
 use borrow.Author.Tests.{le-leb, lt-leb, lt-ltb, le-ltb, ltb-false}
-use Rattle.ground.proofs.Cases.{below-or, same-or}
+use Rattle.ground.proofs.Cases.{below-or}
 use Rattle.boxes.specs.Sums.{only}
 use Rattle.boxes.proofs.Sums.{only-zero}
 use Rattle.tables.specs.Tables.{entry}
 use Rattle.sheet.specs.Limits.{mostHeld}
-use Rattle.sheet.specs.Record.{isIn, isEither, Record, withStanding, withTimes, updated}
+use Rattle.sheet.specs.Record.{isIn, isEither, Record, withStanding, withTimes}
 use Rattle.sheet.specs.declared.Standing.{Standing}
 use Rattle.sheet.specs.declared.Standing.the-variants as standing
 use Rattle.stored.specs.Sections.{bytesBehind, standsIn, takes, mayStand, added}
 use Rattle.stored.specs.declared.Section.{Section}
 use Rattle.stored.specs.declared.Section.the-variants.{Class, Either, Held}
-use Rattle.stored.proofs.UpTo.{updated-here, updated-other}
+use Rattle.stored.proofs.UpTo.{updated-is}
 use Rattle.reading.specs.Parts.{least, mostOwn, hasIn, withOwn}
-
--- a value at c is that of a function which has it there and is as before elsewhere
-updated-is : {A : Type 0} (c : ℕ) (v : A) (f g : ℕ → A) → g c ≡ v → ((y : ℕ) → (y ≡ c → ⊥) → g y ≡ f y) → updated c v f ≡ g
-updated-is c v f g here other =
-    fun-ext (λ y. same-or y c
-    (λ q. ap (updated c v f) q ∙ updated-here c v f ∙ sym here ∙ ap g (sym q))
-    (λ q. updated-other c v f y q ∙ sym (other y q)))
 
 pub own-marks : (s : Section) (f : ℕ → ℕ) (r : Record) → withOwn s f r .marks ≡ r .marks
 own-marks Class f r = refl

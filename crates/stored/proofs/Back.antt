@@ -12,9 +12,9 @@ use lib.Dec.{ltb}
 use borrow.Author.Tests.{le-leb, lt-ltb, ltb-true, ltb-false}
 use Rattle.boxes.specs.Sums.{sum, only}
 use Rattle.boxes.proofs.Sums.{sum-change, sum-le, sum-term, only-le}
-use Rattle.ground.proofs.Cases.{if, clash, below-or, same-or}
+use Rattle.ground.proofs.Cases.{if, clash, below-or}
 use Rattle.sheet.specs.Limits.{mostHeld}
-use Rattle.sheet.specs.Record.{isIn, isEither, Record, opened, updated, withStanding, withTimes}
+use Rattle.sheet.specs.Record.{isIn, isEither, Record, opened, withStanding, withTimes}
 use Rattle.sheet.specs.Sound.{sizeOf}
 use Rattle.sheet.specs.declared.Standing.{Standing}
 use Rattle.sheet.specs.declared.Standing.the-variants as standing
@@ -26,7 +26,7 @@ use Rattle.stored.specs.declared.Layout.{Layout}
 use Rattle.stored.specs.declared.Layout.the-variants.{First, Today}
 use Rattle.stored.specs.declared.Section.{Section}
 use Rattle.stored.specs.declared.Section.the-variants.{Class, Either, Held}
-use Rattle.stored.proofs.UpTo.{upTo, upTo-none, upTo-low, upTo-high, upTo-next, upTo-skip, upTo-updated, updated-here, updated-other}
+use Rattle.stored.proofs.UpTo.{upTo, upTo-none, upTo-low, upTo-high, upTo-next, upTo-skip, upTo-updated, updated-is}
 use Rattle.stored.proofs.Runs.{goes}
 use Rattle.stored.proofs.Numbers.{number-front, drop-front, number-one, bytes-length}
 use Rattle.stored.proofs.Listed.{count, count-le}
@@ -55,31 +55,26 @@ having p r =
     record { marks = r .marks; standing = λ c. upTo standing.Out (reach (p .class) (p .either) (r .standing c)) (r .standing) c; times = upTo 0 (p .held) (r .times) }
 
 -- the standings with one combination more: n where it stands in the section, and nothing else
-module _ (f : ℕ → Standing) (n c : ℕ) where
-  class-next : (e : ℕ) (v : Standing) → (isIn v ≡ true → c ≡ n → ⊥) → upTo standing.Out (reach n e v) f c ≡ upTo standing.Out (reach (suc n) e v) f c
-  class-next e standing.In h = upTo-next standing.Out f n c (h refl)
-  class-next e standing.Out h = refl
-  class-next e standing.Either h = refl
+module _ (f : ℕ → Standing) (n : ℕ) where
+  class-next : (c e : ℕ) (v : Standing) → (isIn v ≡ true → c ≡ n → ⊥) → upTo standing.Out (reach n e v) f c ≡ upTo standing.Out (reach (suc n) e v) f c
+  class-next c e standing.In h = upTo-next standing.Out f n c (h refl)
+  class-next c e standing.Out h = refl
+  class-next c e standing.Either h = refl
 
-  either-next : (i : ℕ) (v : Standing) → (isEither v ≡ true → c ≡ n → ⊥) → upTo standing.Out (reach i n v) f c ≡ upTo standing.Out (reach i (suc n) v) f c
-  either-next i standing.In h = refl
-  either-next i standing.Out h = refl
-  either-next i standing.Either h = upTo-next standing.Out f n c (h refl)
+  either-next : (c i : ℕ) (v : Standing) → (isEither v ≡ true → c ≡ n → ⊥) → upTo standing.Out (reach i n v) f c ≡ upTo standing.Out (reach i (suc n) v) f c
+  either-next c i standing.In h = refl
+  either-next c i standing.Out h = refl
+  either-next c i standing.Either h = upTo-next standing.Out f n c (h refl)
 
-  class-here : (e : ℕ) (v : Standing) → f c ≡ v → isIn v ≡ true → c ≡ n → standing.In ≡ upTo standing.Out (reach (suc n) e v) f c
-  class-here e standing.In k y q = sym (upTo-low standing.Out f (suc n) c (omega arith) ∙ k)
-  class-here e standing.Out k y q = clash y refl
-  class-here e standing.Either k y q = clash y refl
+  class-here : (e : ℕ) (v : Standing) → f n ≡ v → isIn v ≡ true → upTo standing.Out (reach (suc n) e v) f n ≡ standing.In
+  class-here e standing.In k y = upTo-low standing.Out f (suc n) n (omega arith) ∙ k
+  class-here e standing.Out k y = clash y refl
+  class-here e standing.Either k y = clash y refl
 
-  either-here : (i : ℕ) (v : Standing) → f c ≡ v → isEither v ≡ true → c ≡ n → standing.Either ≡ upTo standing.Out (reach i (suc n) v) f c
-  either-here i standing.In k y q = clash y refl
-  either-here i standing.Out k y q = clash y refl
-  either-here i standing.Either k y q = sym (upTo-low standing.Out f (suc n) c (omega arith) ∙ k)
-
--- f with v at n is g, if g is v there and f elsewhere
-updated-is : {A : Type 0} (n : ℕ) (v : A) (f g : ℕ → A) → ((c : ℕ) → c ≡ n → v ≡ g c) → ((c : ℕ) → (c ≡ n → ⊥) → f c ≡ g c) → updated n v f ≡ g
-updated-is n v f g here other =
-    fun-ext (λ c. same-or c n (λ q. ap (updated n v f) q ∙ updated-here n v f ∙ here n refl ∙ ap g (sym q)) (λ o. updated-other n v f c o ∙ other c o))
+  either-here : (i : ℕ) (v : Standing) → f n ≡ v → isEither v ≡ true → upTo standing.Out (reach i (suc n) v) f n ≡ standing.Either
+  either-here i standing.In k y = clash y refl
+  either-here i standing.Out k y = clash y refl
+  either-here i standing.Either k y = upTo-low standing.Out f (suc n) n (omega arith) ∙ k
 
 having-skip : (s : Section) (n : ℕ) (r : Record) (p : Far) → standsIn s r n ≡ false → having (to s n p) r ≡ having (to s (suc n) p) r
 having-skip Class n r p e =
@@ -93,14 +88,12 @@ having-skip Held n r p e = ap (λ (f : ℕ → ℕ). withTimes f (having p r)) (
 having-added : (s : Section) (n : ℕ) (r : Record) (p : Far) → standsIn s r n ≡ true → added s (having (to s n p) r) n (numberBehind s r n) ≡ having (to s (suc n) p) r
 having-added Class n r p e =
     ap (λ (f : ℕ → Standing). withStanding f (having p r))
-    (updated-is n standing.In _ _
-    (λ c q. class-here (r .standing) n c (p .either) (r .standing c) refl (ap (λ (x : ℕ). isIn (r .standing x)) q ∙ e) q)
-    (λ c o. class-next (r .standing) n c (p .either) (r .standing c) (λ y. o)))
+    (updated-is n standing.In _ _ (class-here (r .standing) n (p .either) (r .standing n) refl e)
+    (λ c o. sym (class-next (r .standing) n c (p .either) (r .standing c) (λ y. o))))
 having-added Either n r p e =
     ap (λ (f : ℕ → Standing). withStanding f (having p r))
-    (updated-is n standing.Either _ _
-    (λ c q. either-here (r .standing) n c (p .class) (r .standing c) refl (ap (λ (x : ℕ). isEither (r .standing x)) q ∙ e) q)
-    (λ c o. either-next (r .standing) n c (p .class) (r .standing c) (λ y. o)))
+    (updated-is n standing.Either _ _ (either-here (r .standing) n (p .class) (r .standing n) refl e)
+    (λ c o. sym (either-next (r .standing) n c (p .class) (r .standing c) (λ y. o))))
 having-added Held n r p e = ap (λ (f : ℕ → ℕ). withTimes f (having p r)) (upTo-updated 0 (r .times) n)
 
 -- the section takes the combination: it does not stand in the section that it may not stand in

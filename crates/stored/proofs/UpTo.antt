@@ -15,6 +15,13 @@ module _ {A : Type 0} (c : ℕ) (v : A) (f : ℕ → A) where
   pub updated-other : (x : ℕ) → (x ≡ c → ⊥) → updated c v f x ≡ f x
   updated-other x n = ap (λ (b : Bool). cond b v (f x)) (ne-eqb x c n)
 
+-- f with v at c is any g that has v there and is f elsewhere
+pub updated-is : {A : Type 0} (c : ℕ) (v : A) (f g : ℕ → A) → g c ≡ v → ((x : ℕ) → (x ≡ c → ⊥) → g x ≡ f x) → updated c v f ≡ g
+updated-is c v f g here other =
+    fun-ext (λ x. same-or x c
+    (λ q. ap (updated c v f) q ∙ updated-here c v f ∙ sym here ∙ ap g (sym q))
+    (λ n. updated-other c v f x n ∙ sym (other x n)))
+
 -- what does not tell v from the value that it replaces tells no change
 pub updated-keeps : {A B : Type 0} (p : A → B) (c : ℕ) (v : A) (f : ℕ → A) → p v ≡ p (f c) → (x : ℕ) → p (updated c v f x) ≡ p (f x)
 updated-keeps p c v f e x =
@@ -44,7 +51,4 @@ module _ {A : Type 0} (d : A) (f : ℕ → A) where
   upTo-skip n e = fun-ext (λ x. same-or x n (λ q. upTo-high n x (omega arith) ∙ sym e ∙ sym (here n x q)) (λ q. upTo-next n x q))
 
   pub upTo-updated : (n : ℕ) → updated n (f n) (upTo d n f) ≡ upTo d (suc n) f
-  upTo-updated n =
-      fun-ext (λ x. same-or x n
-      (λ q. ap (λ (b : Bool). cond b (f n) (upTo d n f x)) (eq-eqb x n q) ∙ sym (here n x q))
-      (λ q. updated-other n (f n) (upTo d n f) x q ∙ upTo-next n x q))
+  upTo-updated n = updated-is n (f n) (upTo d n f) (upTo d (suc n) f) (here n n refl) (λ x q. sym (upTo-next n x q))

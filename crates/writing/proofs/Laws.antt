@@ -1,15 +1,16 @@
--- Bytes and listed combinations, one at a time, as the loops put them; the form from its three pieces.
+-- Bytes and listed combinations, one at a time, as the loops put them; the form from its four pieces.
 use Prim.Native.Nat.{ℕ, zero, suc, _+_, _-_, _*_, _/_, _%_, _^_, _≤_, _<_}
 use mathlib.Core.Path.{_≡_, refl, sym, ap, ap₂, _∙_, subst}
-use mathlib.Core.Bool.{Bool, not, cond, _&&_}
-use mathlib.Core.List.{List, [], _∷_, _++_, append-nil}
+use mathlib.Core.Bool.{Bool, true, false, cond, _&&_}
+use mathlib.Core.List.{List, [], _∷_, _++_, append-assoc, append-nil}
 use native.Mathlib.Nat.{sub-zero, zero-add}
 use native.Mathlib.Numerals.{add-one}
 use native.Mathlib.Omega.{arith}
-use lib.ListN.{length, getD, take, drop, length-append}
-use lib.Seq.{drop-cons, take-all, length-take-le}
-use lib.Dec.{eqb}
-use borrow.Author.Tests.{lt-ltb, le-ltb, eq-eqb, ne-eqb}
+use lib.ListN.{length, getD, take, drop, length-append, set, length-set, replicate, length-replicate}
+use lib.Seq.{drop-cons, take-all, length-take-le, getD-set-same, getD-set-other}
+use lib.Dec.{eqb, ltb}
+use borrow.Author.Count.{below-more}
+use borrow.Author.Tests.{lt-ltb, le-ltb}
 use Rattle.ground.specs.Areas.{laid, Wrote}
 use Rattle.ground.proofs.Areas.{wrote-then, wrote-text, wrote-length, wrote-none}
 use Rattle.ground.proofs.Cases.{below-or, mark}
@@ -17,18 +18,21 @@ use Rattle.boxes.specs.Boxes.{single}
 use Rattle.boxes.specs.Sums.{sum, only}
 use Rattle.boxes.proofs.Sums.{sum-ext}
 use Rattle.tables.specs.Tables.{entry, own}
-use Rattle.sheet.specs.Sound.{Ready, sizeOf, recordOf}
+use Rattle.sheet.specs.Record.{isIn, isEither}
+use Rattle.sheet.specs.Sound.{Ready, sizeOf, toldBy, recordOf}
+use Rattle.sheet.specs.declared.Standing.the-variants as standing
 use Rattle.sheet.specs.declared.Sheet.{Sheet}
+use Rattle.sheet.proofs.Opening.{combinations-fit}
 use Rattle.stored.specs.Sections.{bytesBehind, standsIn}
-use Rattle.stored.specs.Parts.{unset}
-use Rattle.stored.specs.Form.{bytes, listed, entryOf, section, form}
+use Rattle.stored.specs.Parts.{Neither}
+use Rattle.stored.specs.Form.{bytes, listed, entryOf, section, formBy, form}
 use Rattle.stored.specs.Answers.{Writes, written}
 use Rattle.stored.specs.declared.Section.{Section}
-use Rattle.stored.specs.declared.Section.the-variants.{Class, Held}
+use Rattle.stored.specs.declared.Section.the-variants.{Class, Either, Held}
 use Rattle.stored.proofs.Numbers.{bytes-length}
 use Rattle.stored.proofs.Listed.{listed-ext}
 use Rattle.stored.proofs.Trips.{form-length}
-use Rattle.writing.specs.Sections.{isSet, entryText, countIn, sectionIn}
+use Rattle.writing.specs.Sections.{entryText, countIn, sectionIn, Owns}
 
 same-head : {x y : ℕ} {a b : List ℕ} → (x ∷ a) ≡ (y ∷ b) → x ≡ y
 same-head e = cc
@@ -112,78 +116,126 @@ module _ {p : ℕ → Bool} {f : ℕ → List ℕ} {n : ℕ} {xs : List ℕ} {at
     pub listing-more : {out₁ : List ℕ} {next₁ : ℕ} → Wrote out next (cond b x []) next₁ out₁ → Listing p f n xs at out₁ next₁ (c + 1)
     listing-more w = record { room = v .room; put = wrote-text (sym (listed-step p f c b x takes writes)) (wrote-then (v .put) w fits) }
 
--- what the table has of a combination
-pub own-read : (m : ℕ) (t : List ℕ) (c b : ℕ) → b ≡ single m c → own m t c ≡ entry t b
-own-read m t c b e = ap (entry t) (sym e)
-
 pub sum-step : (f : ℕ → ℕ) (c x : ℕ) → f c ≡ x → sum c f + x ≡ sum (c + 1) f
 unfolding sum
 sum-step f c x e = sym (ap (λ (j : ℕ). sum j f) (add-one c) ∙ ap (λ (y : ℕ). sum c f + y) e)
 
 -- an entry
-pub entry-none : (k unset c x : ℕ) → x ≡ unset → entryText k unset c x ≡ []
-entry-none k unset c x e = ap (λ (b : Bool). cond (not b) (c ∷ bytes k x) []) (eq-eqb x unset e)
+pub entry-none : (k c x : ℕ) → x ≡ 0 → entryText k c x ≡ []
+entry-none k c x e = ap (λ (b : Bool). cond b (c ∷ bytes k x) []) (le-ltb 0 x (omega arith))
 
-pub entry-some : (k unset c x : ℕ) → (x ≡ unset → ⊥) → entryText k unset c x ≡ c ∷ bytes k x
-entry-some k unset c x n = ap (λ (b : Bool). cond (not b) (c ∷ bytes k x) []) (ne-eqb x unset n)
+pub entry-some : (k c x : ℕ) → (x ≡ 0 → ⊥) → entryText k c x ≡ c ∷ bytes k x
+entry-some k c x n = ap (λ (b : Bool). cond b (c ∷ bytes k x) []) (lt-ltb 0 x (omega arith))
 
-pub set-one : (unset x : ℕ) → (x ≡ unset → ⊥) → only (isSet unset x) 1 ≡ 1
-set-one unset x n = ap (λ (b : Bool). only (not b) 1) (ne-eqb x unset n)
+pub counts-one : (x : ℕ) → (x ≡ 0 → ⊥) → only (ltb 0 x) 1 ≡ 1
+counts-one x n = ap (λ (b : Bool). only b 1) (lt-ltb 0 x (omega arith))
 
-pub unset-none : (unset x : ℕ) → x ≡ unset → only (isSet unset x) 1 ≡ 0
-unset-none unset x e = ap (λ (b : Bool). only (not b) 1) (eq-eqb x unset e)
+pub counts-none : (x : ℕ) → x ≡ 0 → only (ltb 0 x) 1 ≡ 0
+counts-none x e = ap (λ (b : Bool). only b 1) (le-ltb 0 x (omega arith))
 
--- the table that tells a section
-abbrev pub tableOf : Section → Sheet → List ℕ
-tableOf Class u = u .outside
-tableOf Held u = u .held
+-- the own numbers of a table, read one after the other
+pub record OwnsBelow (m : ℕ) (t : List ℕ) (n : ℕ) (has : List ℕ) : Type 0 where
+  pub long : length has ≡ 32
+  pub each : (c : ℕ) → c < n → entry has c ≡ own m t c
 
--- of a sound sheet it tells what stands there, and what is behind it
+pub owns-none : (m : ℕ) (t : List ℕ) → OwnsBelow m t 0 (replicate 32 0)
+owns-none m t = record { long = length-replicate {A = ℕ} 32 0; each = λ c l. absurd (omega arith) }
+
+pub owns-more : {m : ℕ} {t : List ℕ} {n : ℕ} {has : List ℕ} (b : ℕ) → b ≡ single m n → n < 32 → OwnsBelow m t n has → OwnsBelow m t (n + 1) (set has n (entry t b))
+owns-more {m} {t} {n} {has} b e l v =
+    let x = entry t b in
+    record {
+      long = length-set has n x ∙ v .long;
+      each = below-more (λ (c : ℕ). entry (set has n x) c ≡ own m t c) n
+          (λ c k. getD-set-other has n c x 0 (λ q. omega arith) ∙ v .each c k) (getD-set-same has n x 0 (omega (arith, v .long)) ∙ ap (entry t) e);
+    }
+
+pub owns-done : {m : ℕ} {t : List ℕ} {n : ℕ} {has : List ℕ} → n ≡ 2 ^ m → OwnsBelow m t n has → Owns m t has
+owns-done e v = record { long = v .long; each = λ c l. v .each c (omega arith) }
+
+-- a list tells a section of a sheet: what stands there, and what is behind it
+pub record Told (u : Sheet) (s : Section) (has : List ℕ) : Type 0 where
+  pub stands : (c : ℕ) → c < 2 ^ u .marks → ltb 0 (entry has c) ≡ standsIn s (recordOf u) c
+  pub text : (c : ℕ) → c < 2 ^ u .marks → (c ∷ bytes (bytesBehind s) (entry has c)) ≡ entryOf s (recordOf u) c
+
+pub count-told : {u : Sheet} {s : Section} {has : List ℕ} → Told u s has → countIn (u .marks) has ≡ sizeOf (u .marks) (standsIn s (recordOf u))
+count-told {u} v = sum-ext (2 ^ u .marks) _ _ (λ c l. ap (λ (b : Bool). only b 1) (v .stands c l))
+
+section-told : {u : Sheet} {s : Section} {has : List ℕ} → Told u s has → sectionIn s (u .marks) has ≡ section s (recordOf u)
+section-told {u} v = ap₂ (λ (n : ℕ) (l : List ℕ). bytes 2 n ++ l) (count-told v) (listed-ext _ _ _ _ (2 ^ u .marks) (v .stands) (v .text))
+
+-- each of a sound sheet's three
 module _ {most : ℕ} (u : Sheet) (ready : Ready most u) where
-  stands-told : (s : Section) (c : ℕ) → c < 2 ^ u .marks → isSet (unset s) (own (u .marks) (tableOf s u) c) ≡ standsIn s (recordOf u) c
-  stands-told Class c l =
-      mark (λ x. isSet 1 x ≡ eqb x 0) (own (u .marks) (u .outside) c) (omega (arith, ready .class .ones c l)) refl refl
-      ∙ ap (λ (b : Bool). b && eqb (own (u .marks) (u .outside) c) 0) (sym (lt-ltb c (2 ^ u .marks) l))
-  stands-told Held c l =
-      let x = own (u .marks) (u .held) c in
-      below-or 0 x (λ p. rw (ne-eqb x 0 (λ e. omega arith), lt-ltb 0 x p)) (λ p. rw (eq-eqb x 0 (omega arith), le-ltb 0 x p))
+  -- a combination is in exactly if it is neither out nor either
+  in-third : (a b : Bool) → ltb 0 (only (a && b) 1) ≡ isIn (cond a (cond b standing.In standing.Either) standing.Out)
+  in-third true true = refl
+  in-third true false = refl
+  in-third false b = refl
 
-  entry-told : (s : Section) (c : ℕ) → (c ∷ bytes (bytesBehind s) (own (u .marks) (tableOf s u) c)) ≡ entryOf s (recordOf u) c
-  unfolding bytes
-  entry-told Class c = refl
-  entry-told Held c = refl
+  either-own : (o e : ℕ) → o + e ≤ 1 → ltb 0 e ≡ isEither (toldBy o e)
+  either-own o e l =
+      mark (λ (x : ℕ). x + e ≤ 1 → ltb 0 e ≡ isEither (toldBy x e)) o (omega arith)
+      (λ k. mark (λ (y : ℕ). ltb 0 y ≡ isEither (toldBy 0 y)) e (omega arith) refl refl)
+      (λ k. le-ltb 0 e (omega arith)) l
 
-  count-told : (s : Section) → countIn (unset s) (u .marks) (tableOf s u) ≡ sizeOf (u .marks) (standsIn s (recordOf u))
-  count-told s = sum-ext (2 ^ u .marks) _ _ (λ c l. ap (λ (b : Bool). only b 1) (stands-told s c l))
+  module _ {outs eithers : List ℕ} (out : Owns (u .marks) (u .outside) outs) (either : Owns (u .marks) (u .either) eithers) where
+    pub class-told : {class : List ℕ} → u .marks ≤ 5 → Neither outs eithers class → Told u Class class
+    unfolding bytes
+    class-told {class} few third = record {
+      stands = λ c l.
+          rw (lt-ltb c (2 ^ u .marks) l, third .each c (omega (arith, combinations-fit (u .marks) few)), out .each c l, either .each c l) (in-third (eqb (own (u .marks) (u .outside) c) 0) (eqb (own (u .marks) (u .either) c) 0));
+      text = λ c l. refl;
+    }
 
-  section-told : (s : Section) → sectionIn s (u .marks) (tableOf s u) ≡ section s (recordOf u)
-  section-told s = ap₂ (λ (n : ℕ) (l : List ℕ). bytes 2 n ++ l) (count-told s) (listed-ext _ _ _ _ (2 ^ u .marks) (stands-told s) (λ c l. entry-told s c))
+    pub either-told : Told u Either eithers
+    unfolding bytes
+    either-told = record {
+      stands = λ c l. rw (lt-ltb c (2 ^ u .marks) l, either .each c l) (either-own _ _ (ready .class .tells c l));
+      text = λ c l. refl;
+    }
 
-  -- the form from its three pieces, and its length from the two counts
+  pub held-told : {times : List ℕ} → Owns (u .marks) (u .held) times → Told u Held times
+  held-told held = record { stands = λ c l. ap (ltb 0) (held .each c l); text = λ c l. ap (λ (x : ℕ). c ∷ bytes 4 x) (held .each c l) }
+
+-- the form from its four pieces, and its length from the three counts
+module _ {u : Sheet} {class eithers times : List ℕ} (tc : Told u Class class) (te : Told u Either eithers) (th : Told u Held times) where
   abbrev pub pieces : List ℕ
-  pieces = ((u .marks ∷ []) ++ sectionIn Class (u .marks) (u .outside)) ++ sectionIn Held (u .marks) (u .held)
+  pieces = (((u .marks ∷ []) ++ sectionIn Class (u .marks) class) ++ sectionIn Either (u .marks) eithers) ++ sectionIn Held (u .marks) times
 
   pub pieces-form : pieces ≡ form (recordOf u)
-  unfolding form
-  pieces-form = ap₂ (λ (x y : List ℕ). u .marks ∷ (x ++ y)) (section-told Class) (section-told Held ∙ sym (append-nil (section Held (recordOf u))))
+  unfolding formBy
+  pieces-form =
+      ap (λ (l : List ℕ). u .marks ∷ l)
+      (append-assoc (sectionIn Class (u .marks) class) (sectionIn Either (u .marks) eithers) (sectionIn Held (u .marks) times)
+      ∙ ap₂ (λ (x y : List ℕ). x ++ y) (section-told tc)
+      (ap₂ (λ (x y : List ℕ). x ++ y) (section-told te) (section-told th ∙ sym (append-nil (section Held (recordOf u))))))
 
-  pub length-told : length (form (recordOf u)) ≡ 5 + countIn (unset Class) (u .marks) (u .outside) + countIn (unset Held) (u .marks) (u .held) * 5
-  length-told = omega (arith, form-length (recordOf u), count-told Class, count-told Held)
+  pub length-told : length (form (recordOf u)) ≡ 7 + countIn (u .marks) class + countIn (u .marks) eithers + countIn (u .marks) times * 5
+  length-told = omega (arith, form-length (recordOf u), count-told tc, count-told te, count-told th)
+
+  -- they fill it
+  pub pieces-length : length (form (recordOf u)) ≡ 1 + length (sectionIn Class (u .marks) class) + length (sectionIn Either (u .marks) eithers) + length (sectionIn Held (u .marks) times)
+  pieces-length = omega (
+    arith,
+    ap length pieces-form,
+    length-append (((u .marks ∷ []) ++ sectionIn Class (u .marks) class) ++ sectionIn Either (u .marks) eithers) (sectionIn Held (u .marks) times),
+    length-append ((u .marks ∷ []) ++ sectionIn Class (u .marks) class) (sectionIn Either (u .marks) eithers),
+    length-append (u .marks ∷ []) (sectionIn Class (u .marks) class),
+  )
 
   -- a form whose pieces were put is written
-  pub pieces-written : {out o₁ o₂ o₃ : List ℕ} {p₁ p₂ p₃ : ℕ} → length (form (recordOf u)) ≤ length out → Wrote out 0 (u .marks ∷ []) p₁ o₁
-      → Wrote o₁ p₁ (sectionIn Class (u .marks) (u .outside)) p₂ o₂ → Wrote o₂ p₂ (sectionIn Held (u .marks) (u .held)) p₃ o₃
-      → Writes most u out (record { number = 0; value = p₃ }) o₃
+  pub pieces-written : {most : ℕ} {out o₁ o₂ o₃ o₄ : List ℕ} {p₁ p₂ p₃ p₄ : ℕ} → Ready most u → length (form (recordOf u)) ≤ length out → Wrote out 0 (u .marks ∷ []) p₁ o₁
+      → Wrote o₁ p₁ (sectionIn Class (u .marks) class) p₂ o₂ → Wrote o₂ p₂ (sectionIn Either (u .marks) eithers) p₃ o₃ → Wrote o₃ p₃ (sectionIn Held (u .marks) times) p₄ o₄
+      → Writes most u out (record { number = 0; value = p₄ }) o₄
   unfolding laid
-  pieces-written {out} {o₃ = o₃} {p₃ = p₃} room w₁ w₂ w₃ =
+  pieces-written {most} {out} {o₄ = o₄} {p₄ = p₄} ready room w₁ w₂ w₃ w₄ =
       let t = form (recordOf u) in
-      let class = sectionIn Class (u .marks) (u .outside) in
-      let held = sectionIn Held (u .marks) (u .held) in
-      let e₁ = length-append (u .marks ∷ []) class in
-      let e₂ = length-append ((u .marks ∷ []) ++ class) held in
-      let whole = ap length pieces-form in
-      let w = wrote-text pieces-form (wrote-then (wrote-then w₁ w₂ (omega arith)) w₃ (omega arith)) in
-      let e : p₃ ≡ length t = omega (arith, w .place) in
-      let q : o₃ ≡ t ++ drop (length t) out = w .area ∙ ap (λ (k : ℕ). t ++ drop k out) (zero-add (length t)) in
-      subst (λ (k : ℕ). Writes most u out (record { number = 0; value = k }) o₃) (sym e)
+      let first = (u .marks ∷ []) ++ sectionIn Class (u .marks) class in
+      let e₁ = length-append (u .marks ∷ []) (sectionIn Class (u .marks) class) in
+      let e₂ = length-append first (sectionIn Either (u .marks) eithers) in
+      let fits = pieces-length in
+      let w = wrote-text pieces-form (wrote-then (wrote-then (wrote-then w₁ w₂ (omega arith)) w₃ (omega arith)) w₄ (omega arith)) in
+      let e : p₄ ≡ length t = omega (arith, w .place) in
+      let q : o₄ ≡ t ++ drop (length t) out = w .area ∙ ap (λ (k : ℕ). t ++ drop k out) (zero-add (length t)) in
+      subst (λ (k : ℕ). Writes most u out (record { number = 0; value = k }) o₄) (sym e)
       (subst (λ (l : List ℕ). Writes most u out (record { number = 0; value = length t }) l) (sym q) (written ready room))

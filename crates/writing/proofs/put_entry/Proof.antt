@@ -13,8 +13,8 @@ use Rattle.writing.proofs.Laws.{entry-none, entry-some}
 use Rattle.writing.proofs.put_entry.Statement.{statement}
 use Rattle.writing.proofs.put_entry.Tie as tie
 
-some : (c : tie.Else1) → entryText (c .before .before .args .k) (c .before .before .args .unset) (c .before .before .args .c) (c .before .before .args .x) ≡ c .before .before .args .c ∷ bytes (c .before .before .args .k) (c .before .before .args .x)
-some c = entry-some (c .before .before .args .k) (c .before .before .args .unset) (c .before .before .args .c) (c .before .before .args .x) (c .if1 .left)
+some : (c : tie.Else1) → entryText (c .before .before .args .k) (c .before .before .args .c) (c .before .before .args .x) ≡ c .before .before .args .c ∷ bytes (c .before .before .args .k) (c .before .before .args .x)
+some c = entry-some (c .before .before .args .k) (c .before .before .args .c) (c .before .before .args .x) (c .if1 .left)
 
 room : (c : tie.Else1) → c .before .before .args .at + 1 + c .before .before .args .k ≤ length (c .before .before .args .out .now)
 room c = omega (arith, ap length (some c), bytes-length (c .before .before .args .k) (c .before .before .args .x), c .before .before .pre .1)
@@ -22,7 +22,7 @@ room c = omega (arith, ap length (some c), bytes-length (c .before .before .args
 returns : tie.Need-returns
 returns c =
     let s = c .before .before .args in
-    wrote-text (sym (entry-none (s .k) (s .unset) (s .c) (s .x) (c .if1 .taken))) (wrote-none (s .out .now) (s .at))
+    wrote-text (sym (entry-none (s .k) (s .c) (s .x) (c .if1 .taken))) (wrote-none (s .out .now) (s .at))
 
 put-byte-requires : tie.Need-put-byte-requires
 put-byte-requires c κs = omega (arith, room (c .before))

@@ -1,71 +1,111 @@
--- 5 by the length that the two counts tell, then the form in three pieces.
-use Prim.Native.Nat.{ℕ, _+_, _*_, _≤_}
-use mathlib.Core.Path.{_≡_, ap, _∙_}
-use mathlib.Core.List.{[], _∷_, _++_}
+-- 5 by the length that the three counts tell, then the form in four pieces.
+use Prim.Native.Nat.{_+_, _*_, _≤_}
+use mathlib.Core.Path.{_≡_}
 use native.Mathlib.Omega.{arith}
-use lib.ListN.{length, length-append}
+use lib.ListN.{length}
 use borrow.Author.Needs.{needs}
 use Rattle.sheet.specs.Limits.{mostMarks, entries}
 use Rattle.sheet.specs.Sound.{recordOf}
 use Rattle.sheet.proofs.Tests.{marks-most}
-use Rattle.stored.specs.Parts.{unset}
 use Rattle.stored.specs.Form.{form}
 use Rattle.stored.specs.Answers.{short}
-use Rattle.stored.specs.declared.Section.the-variants.{Class, Held}
-use Rattle.writing.specs.Sections.{countIn, sectionIn}
-use Rattle.writing.proofs.Laws.{pieces-form, length-told, pieces-written}
+use Rattle.stored.specs.declared.Section.the-variants.{Class, Either, Held}
+use Rattle.writing.specs.Sections.{sectionIn}
+use Rattle.writing.proofs.Laws.{Told, class-told, either-told, held-told, length-told, pieces-length, pieces-written}
 use Rattle.writing.proofs.write_sound.Statement.{statement}
 use Rattle.writing.proofs.write_sound.Tie as tie
 
-long : (c : tie.Start) → (length (c .args .sheet .outside) ≡ entries) × (length (c .args .sheet .held) ≡ entries)
+long : (c : tie.Start) → (length (c .args .sheet .outside) ≡ entries) × (length (c .args .sheet .either) ≡ entries) × (length (c .args .sheet .held) ≡ entries)
 long c = search needs
 
 few : (c : tie.Start) → c .args .sheet .marks ≤ mostMarks
 few c = marks-most mostMarks (c .args .sheet .marks) (c .pre .marks)
 
-class-count : (c : tie.After-size) → c .size .result ≡ countIn (unset Class) (c .before .before .before .before .before .before .args .sheet .marks) (c .before .before .before .before .before .before .args .sheet .outside)
-class-count c = c .size .ensures .0 ∙ ap (λ (u : ℕ). countIn u (c .before .before .before .before .before .before .args .sheet .marks) (c .before .before .before .before .before .before .args .sheet .outside)) (c .before .unset .ensures)
+-- the lists tell the sections of the sheet
+told-class : (c : tie.After-owns3) → Told (c .before .before .before .before .before .before .before .before .before .before .before .before .before .args .sheet) Class (c .before .before .neither .result)
+told-class c =
+    let s = c .before .before .before .before .before .before .before .before .before .before .before .before .before in
+    class-told (s .args .sheet) (s .pre) (c .before .before .before .before .before .owns2 .ensures) (c .before .before .before .before .before .before .before .owns .ensures) (few s) (c .before .before .neither .ensures)
 
-held-count : (c : tie.After-size2) → c .size2 .result ≡ countIn (unset Held) (c .before .before .before .before .before .before .before .before .before .args .sheet .marks) (c .before .before .before .before .before .before .before .before .before .args .sheet .held)
-held-count c = c .size2 .ensures .0 ∙ ap (λ (u : ℕ). countIn u (c .before .before .before .before .before .before .before .before .before .args .sheet .marks) (c .before .before .before .before .before .before .before .before .before .args .sheet .held)) (c .before .unset2 .ensures)
+told-either : (c : tie.After-owns3) → Told (c .before .before .before .before .before .before .before .before .before .before .before .before .before .args .sheet) Either (c .before .before .before .before .before .before .before .owns .result)
+told-either c = let s = c .before .before .before .before .before .before .before .before .before .before .before .before .before in either-told (s .args .sheet) (s .pre) (c .before .before .before .before .before .owns2 .ensures) (c .before .before .before .before .before .before .before .owns .ensures)
 
-total : (c : tie.After-size2) → length (form (recordOf (c .before .before .before .before .before .before .before .before .before .args .sheet))) ≡ 5 + c .before .before .before .size .result + c .size2 .result * 5
-total c = omega (arith, length-told (c .before .before .before .before .before .before .before .before .before .args .sheet) (c .before .before .before .before .before .before .before .before .before .pre), class-count (c .before .before .before), held-count c)
+told-held : (c : tie.After-owns3) → Told (c .before .before .before .before .before .before .before .before .before .before .before .before .before .args .sheet) Held (c .owns3 .result)
+told-held c = let s = c .before .before .before .before .before .before .before .before .before .before .before .before .before in held-told (s .args .sheet) (s .pre) (c .owns3 .ensures)
 
--- the three pieces have room
-room : (c : tie.Else1) → 1 + length (sectionIn Class (c .before .before .before .before .before .before .before .before .before .before .args .sheet .marks) (c .before .before .before .before .before .before .before .before .before .before .args .sheet .outside)) + length (sectionIn Held (c .before .before .before .before .before .before .before .before .before .before .args .sheet .marks) (c .before .before .before .before .before .before .before .before .before .before .args .sheet .held)) ≤ length (c .before .before .before .before .before .before .before .before .before .before .args .out .now)
-room c =
-    let u = c .before .before .before .before .before .before .before .before .before .before .args .sheet in
-    let class = sectionIn Class (u .marks) (u .outside) in
-    let held = sectionIn Held (u .marks) (u .held) in
-    omega (arith, total (c .before), ap length (pieces-form u (c .before .before .before .before .before .before .before .before .before .before .pre)), length-append ((u .marks ∷ []) ++ class) held, length-append (u .marks ∷ []) class)
+total : (c : tie.After-size3) → length (form (recordOf (c .before .before .before .before .before .before .before .before .before .before .before .before .before .before .before .before .before .before .before .args .sheet))) ≡ 7 + c .before .before .before .before .size .result + c .before .before .size2 .result + c .size3 .result * 5
+total c =
+    let o = c .before .before .before .before .before .before in
+    omega (arith, length-told (told-class o) (told-either o) (told-held o), c .before .before .before .before .size .ensures .0, c .before .before .size2 .ensures .0, c .size3 .ensures .0)
+
+-- the four pieces have room
+room : (c : tie.Else1)
+    → let o = c .before .before .before .before .before .before .before in
+    let u = c .before .before .before .before .before .before .before .before .before .before .before .before .before .before .before .before .before .before .before .before .args .sheet in
+    1 + length (sectionIn Class (u .marks) (o .before .before .neither .result)) + length (sectionIn Either (u .marks) (o .before .before .before .before .before .before .before .owns .result)) + length (sectionIn Held (u .marks) (o .owns3 .result)) ≤ length (c .before .before .before .before .before .before .before .before .before .before .before .before .before .before .before .before .before .before .before .before .args .out .now)
+room c = let o = c .before .before .before .before .before .before .before in omega (arith, total (c .before), pieces-length (told-class o) (told-either o) (told-held o))
+
+owns-requires : tie.Need-owns-requires
+owns-requires c κs = let s = c .before .before .before .before .before in (few s, omega (arith, long s))
+
+owns-requires-2 : tie.Need-owns-requires-2
+owns-requires-2 c κs = let s = c .before .before .before .before .before .before .before in (few s, omega (arith, long s))
+
+owns-requires-3 : tie.Need-owns-requires-3
+owns-requires-3 c κs = let s = c .before .before .before .before .before .before .before .before .before .before .before .before in (few s, omega (arith, long s))
 
 size-requires : tie.Need-size-requires
-size-requires c κs = (few (c .before .before .before .before .before), omega (arith, long (c .before .before .before .before .before)))
+size-requires c κs = few (c .before .before .before .before .before .before .before .before .before .before .before .before .before .before)
 
 size-requires-2 : tie.Need-size-requires-2
-size-requires-2 c κs = (few (c .before .before .before .before .before .before .before .before), omega (arith, long (c .before .before .before .before .before .before .before .before)))
+size-requires-2 c κs = few (c .before .before .before .before .before .before .before .before .before .before .before .before .before .before .before .before)
+
+size-requires-3 : tie.Need-size-requires-3
+size-requires-3 c κs = few (c .before .before .before .before .before .before .before .before .before .before .before .before .before .before .before .before .before .before)
 
 returns : tie.Need-returns
-returns c = short (c .before .before .before .before .before .before .before .before .before .before .pre) (omega (arith, total (c .before)))
+returns c = short (c .before .before .before .before .before .before .before .before .before .before .before .before .before .before .before .before .before .before .before .before .pre) (omega (arith, total (c .before)))
 
 cast-put-byte : tie.Need-cast-put-byte
-cast-put-byte c = omega (arith, few (c .before .before .before .before .before .before .before .before .before .before .before))
+cast-put-byte c = omega (arith, few (c .before .before .before .before .before .before .before .before .before .before .before .before .before .before .before .before .before .before .before .before .before))
 
 put-section-requires : tie.Need-put-section-requires
-put-section-requires c κs = (few (c .before .before .before .before .before .before .before .before .before .before .before .before .before .before .before .before), (omega (arith, long (c .before .before .before .before .before .before .before .before .before .before .before .before .before .before .before .before)), (class-count (c .before .before .before .before .before .before .before .before .before .before), omega (arith, room (c .before .before .before .before .before .before), c .before .before .before .before .put-byte .ensures .place, c .before .before .before .before .put-byte .kept .0))))
+put-section-requires c κs =
+    let e = c .before .before .before .before .before .before in
+    let w = c .before .before .before .before .put-byte in
+    (few (e .before .before .before .before .before .before .before .before .before .before .before .before .before .before .before .before .before .before .before .before), (e .before .before .before .before .before .size .ensures .0, omega (arith, room e, w .ensures .place, w .kept .0)))
 
 put-section-requires-2 : tie.Need-put-section-requires-2
 put-section-requires-2 c κs =
-    (few (c .before .before .before .before .before .before .before .before .before .before .before .before .before .before .before .before .before .before .before .before .before), (omega (arith, long (c .before .before .before .before .before .before .before .before .before .before .before .before .before .before .before .before .before .before .before .before .before)), (held-count (c .before .before .before .before .before .before .before .before .before .before .before .before), omega (arith, room (c .before .before .before .before .before .before .before .before .before .before .before), c .before .before .before .before .before .before .before .before .before .put-byte .ensures .place, c .before .before .before .before .before .before .before .before .before .put-byte .kept .0, c .before .before .before .before .put-section .ensures .place, c .before .before .before .before .put-section .kept .0))))
+    let d = c .before .before .before .before .before in
+    let e = d .before .before .before .before .before .before in
+    let w = d .before .before .before .before .put-byte in
+    let v = c .before .before .before .before .put-section in
+    (few (e .before .before .before .before .before .before .before .before .before .before .before .before .before .before .before .before .before .before .before .before), (e .before .before .before .size2 .ensures .0, omega (arith, room e, w .ensures .place, w .kept .0, v .ensures .place, v .kept .0)))
+
+put-section-requires-3 : tie.Need-put-section-requires-3
+put-section-requires-3 c κs =
+    let b = c .before .before .before .before .before in
+    let d = b .before .before .before .before .before in
+    let e = d .before .before .before .before .before .before in
+    let w = d .before .before .before .before .put-byte in
+    let v = b .before .before .before .before .put-section in
+    let x = c .before .before .before .before .put-section2 in
+    (few (e .before .before .before .before .before .before .before .before .before .before .before .before .before .before .before .before .before .before .before .before), (e .before .size3 .ensures .0, omega (arith, room e, w .ensures .place, w .kept .0, v .ensures .place, v .kept .0, x .ensures .place, x .kept .0)))
 
 returns-2 : tie.Need-returns-2
 returns-2 c =
-    pieces-written (c .before .before .before .before .before .before .before .before .before .before .before .before .before .before .before .before .before .before .before .before .before .before .before .before .args .sheet) (c .before .before .before .before .before .before .before .before .before .before .before .before .before .before .before .before .before .before .before .before .before .before .before .before .pre) (omega (arith, total (c .before .before .before .before .before .before .before .before .before .before .before .before .before .before .before))) (c .before .before .before .before .before .before .before .before .before .before .before .before .put-byte .ensures) (c .before .before .before .before .before .before .before .put-section .ensures) (c .before .before .put-section2 .ensures)
+    let a = c .before .before .before in
+    let b = a .before .before .before .before .before in
+    let d = b .before .before .before .before .before in
+    let e = d .before .before .before .before .before .before in
+    let o = e .before .before .before .before .before .before .before in
+    pieces-written (told-class o) (told-either o) (told-held o) (e .before .before .before .before .before .before .before .before .before .before .before .before .before .before .before .before .before .before .before .before .pre) (omega (arith, total (e .before)))
+    (d .before .before .before .before .put-byte .ensures) (b .before .before .before .before .put-section .ensures) (a .before .before .before .before .put-section2 .ensures) (c .before .before .put-section3 .ensures)
 
 pub write-sound-spec : {M : Type 1} → statement M
 write-sound-spec = tie.close (tie.spec
-    (λ c. search needs) (λ c κs. search needs) size-requires (λ c. search needs) (λ c κs. search needs)
-    size-requires-2 (λ c. search needs) (λ c. search needs) (λ c. search needs) returns cast-put-byte
-    (λ c κs. search needs) (λ c. search needs) put-section-requires (λ c. search needs) put-section-requires-2
+    (λ c. search needs) owns-requires (λ c. search needs) owns-requires-2 (λ c κs. search needs) (λ c. search needs) owns-requires-3
+    size-requires size-requires-2 size-requires-3 (λ c. search needs) (λ c. search needs) (λ c. search needs) (λ c. search needs)
+    returns cast-put-byte (λ c κs. search needs) put-section-requires put-section-requires-2 put-section-requires-3
     (λ c. search needs) returns-2)
