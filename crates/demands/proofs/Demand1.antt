@@ -22,9 +22,9 @@ use Rattle.sheet.specs.declared.Answer.{Answer}
 use Rattle.sheet.specs.declared.Value.{Value}
 use Rattle.sheet.proofs.Answers.{open-done, open-refused}
 use Rattle.listing.specs.Listing.{Searched, Listed, Totalled}
-use Rattle.stored.specs.Fields.{Outcome, good, refused}
-use Rattle.stored.specs.Answers.{readOf, ReadBy, ReadsBy, Writes}
-use Rattle.stored.specs.declared.Layout.{Layout}
+use Rattle.stored.specs.Fields.{marks, due, Outcome, good, refused, Run}
+use Rattle.stored.specs.Answers.{readOf, ReadBy, Writes}
+use Rattle.stored.specs.declared.Section.{Section}
 use Rattle.stored.specs.declared.Read.{Read}
 use Rattle.stored.proofs.Refusals.{refusals}
 use Rattle.pla.specs.Answers.{ReadsPla, WritesPla}
@@ -142,7 +142,7 @@ read-by-refuses {R} {l = l} fair x = subst (λ (y : Read). Refuses (ofRead y) l 
         (λ (w : k ≡ 10). subst (λ (x : ℕ). Refuses (record { answer = x; place = p; values = [] }) l l) (sym w) (placed (λ i. refl)))
         (fair k p y)
 
-read-refuses : {layout : Layout} {t : List ℕ} {l : Lent} (a : Read) → ReadsBy layout mostMarks entries t a → Refuses (ofRead a) l l
+read-refuses : {rest : List Section} {t : List ℕ} {l : Lent} (a : Read) → ReadBy (Run mostMarks (due (marks rest)) 0 t) entries a → Refuses (ofRead a) l l
 read-refuses a x = read-by-refuses (λ k p. refusals) x
 
 read-pla-refuses : {t : List ℕ} {l : Lent} (a : Read) → ReadsPla mostMarks entries t a → Refuses (ofRead a) l l

@@ -2,7 +2,7 @@
 use Prim.Native.Nat.{ℕ, zero, suc, _+_, _^_, _<_, _≤_}
 use mathlib.Core.Path.{_≡_, refl, sym, _∙_, ap, ap₂, subst, fun-ext}
 use mathlib.Core.Bool.{Bool, true, false, cond, _&&_}
-use mathlib.Core.List.{List, _++_}
+use mathlib.Core.List.{List, [], _∷_, _++_}
 use native.Mathlib.Omega.{arith}
 use lib.Dec.{eqb, ltb}
 use lib.ListN.{length, drop}
@@ -23,7 +23,9 @@ use Rattle.sheet.proofs.Kept.{told-back}
 use Rattle.sheet.proofs.Tests.{change-own, amount-2, amount-4, amount-last, amount-0}
 use Rattle.listing.specs.Listing.{Totalled}
 use Rattle.stored.specs.Fields.{Bytes, good, ReadingBy}
-use Rattle.stored.specs.Form.{formBy, form}
+use Rattle.stored.specs.Form.{section, formBy, form}
+use Rattle.stored.specs.declared.Section.the-variants as Sections
+use Rattle.stored.specs.declared.Section.the-variants.{Class, Held}
 use Rattle.stored.specs.Answers.{ReadsBy, Writes}
 use Rattle.stored.specs.declared.Layout.the-variants.{First}
 use Rattle.stored.specs.declared.Read.{Read}
@@ -98,14 +100,18 @@ time s c low either some (Totalled.told w) = absurd (omega (arith, w .times .apa
 none-out : {r : Record} {l : List ℕ} → Lines r l → (c : ℕ) → covered (r .marks) l c ≡ true → isOut (r .standing c) ≡ false
 none-out {r} x c e = not-true (isOut (r .standing c)) (x .right .fits .inside c e)
 
--- old files
+-- the stored form
+
+stored-sections : (r : Record) → form r ≡ r .marks ∷ (section Class r ++ (section Sections.Either r ++ (section Held r ++ [])))
+unfolding formBy
+stored-sections r = refl
 
 -- a record with nothing at 2^m and above is what is read of its form
 cut-same : (r : Record) → Good r → ((c : ℕ) → 2 ^ r .marks ≤ c → r .times c ≡ 0) → cut r ≡ r
-cut-same r good none =
+cut-same r g none =
     let N = 2 ^ r .marks in
     ap₂ (λ (f : ℕ → Standing) (g : ℕ → ℕ). record { marks = r .marks; standing = f; times = g })
-    (fun-ext (λ c. below-or c N (λ l. upTo-low Out (r .standing) N c l) (λ l. upTo-high Out (r .standing) N c l ∙ sym (out-above r good c l))))
+    (fun-ext (λ c. below-or c N (λ l. upTo-low Out (r .standing) N c l) (λ l. upTo-high Out (r .standing) N c l ∙ sym (out-above r g c l))))
     (fun-ext (λ c. below-or c N (λ l. upTo-low 0 (r .times) N c l) (λ l. upTo-high 0 (r .times) N c l ∙ sym (none c l))))
 
 old-reads : (r : Record) → Good r → NoneEither r → ((c : ℕ) → 2 ^ r .marks ≤ c → r .times c ≡ 0) → ReadingBy First mostMarks (formBy First r) (good r)
@@ -144,7 +150,7 @@ standings = record {
   apart = λ b ks c e. let w = begins-good b in good-all _ (w .0) ks .apart c e;
   covers = λ x. x .right .fits .covers;
   none-out = none-out;
-  sections = λ r. refl;
+  sections = stored-sections;
   old = λ {t} b y. let k = is-form First t b y in (first-none k, k .bytes);
   old-reads = old-reads;
   converts = converts;
