@@ -1,7 +1,7 @@
 //! What the program months prints, written a second time, for the tests alone: by the rules, and by other means than the program's wherever there are any.
 //! The days of the year stand in a set, dates are compared as texts, and the total of a month is that of a new sheet on which all changes up to it are made again.
 
-use crate::model::{Reply, Sheet, Times};
+use crate::model::{Reply, Sheet, Standing, Times};
 use std::collections::HashSet;
 
 /// A line has at most so many bytes.
@@ -18,8 +18,8 @@ struct Change {
 impl Change {
     fn make(&self, sheet: &mut Sheet) -> Result<(), Reply> {
         match self.verb.as_str() {
-            "in" => sheet.change(self.combination, true),
-            "out" => sheet.change(self.combination, false),
+            "in" => sheet.change(self.combination, Standing::In),
+            "out" => sheet.change(self.combination, Standing::Out),
             "recv" => sheet.receive(self.combination, self.seconds),
             _ => sheet.withdraw(self.combination, self.seconds),
         }
