@@ -4,6 +4,7 @@ ghost use Prim.Native.Nat.{_+_, _*_, _-_, _^_, _<_, _≤_};
 ghost use lib.ListN.{length};
 ghost use Rattle.ground.specs.Decides.{Decides};
 ghost use Rattle.boxes.specs.Boxes.{sumIn, allFree};
+ghost use Rattle.boxes.specs.Parts.{AllThrough};
 ghost use Rattle.tables.specs.Tables.{entry, own, afresh, shifted, moved, fitsShifted, touched, Sums};
 ghost use Rattle.tables.specs.Parts.{Over, Bears, AllBear, staysOf, fitsMoved};
 ghost use Rattle.tables.specs.Thirds.{from, Added, sumOf, FewEach, Made};
@@ -52,33 +53,41 @@ impl Shift {
     }
 }
 
-// Shifts each box that contains the combination c.
-pub fn move_at(m: usize, c: usize, by: Shift, t: &mut [u32])
+// Shifts each box that contains the combination c; `all` has these boxes, which the caller works out once for all its tables.
+pub fn move_at(m: usize, c: usize, all: &[u16; 256], by: Shift, t: &mut [u32])
     requires { ⌜ Over m c (now t) ⌝ }
     requires { ⌜ AllBear m c by (now t) ⌝ }
+    requires { ⌜ AllThrough m c (now all) ⌝ }
     ensures { λ r. ⌜ now (t .exit) ≡ moved m c by (now (t .entry)) ⌝ }
 {
     if by.is_none() {
         return;
     }
-    let all = boxes::all_through(m, c);
     let turns = boxes::power2(m);
     for k in 0..turns {
-        let b = boxes::through(m, c, &all, k);
+        let b = boxes::through(m, c, all, k);
         t[b] = by.of(t[b]);
     }
 }
 
 // Whether each entry of a box that contains the combination c, shifted, is 0 to `most` and `each` more for each combination of the box.
-pub fn fits_at(m: usize, c: usize, by: Shift, t: &[u32], most: u64, each: u64) -> bool
+pub fn fits_at(
+    m: usize,
+    c: usize,
+    all: &[u16; 256],
+    by: Shift,
+    t: &[u32],
+    most: u64,
+    each: u64,
+) -> bool
     requires { ⌜ Over m c (now t) ⌝ }
     requires { ⌜ (most < 2 ^ 33) × (each ≤ 1) ⌝ }
+    requires { ⌜ AllThrough m c (now all) ⌝ }
     ensures { λ r. ⌜ r ≡ touched m c (fitsMoved m by (now (t .entry)) most each) ⌝ }
 {
-    let all = boxes::all_through(m, c);
     let n = boxes::power2(m);
     for k in 0..n {
-        let b = boxes::through(m, c, &all, k);
+        let b = boxes::through(m, c, all, k);
         let size = boxes::power2(usize::count_ones(k) as usize) as u64;
         if !by.fits(t[b], most + each * size) {
             return false;
