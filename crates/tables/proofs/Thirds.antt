@@ -88,6 +88,9 @@ module _ (m at p : ℕ) (t : ℕ → ℕ) (some : 1 ≤ m) (is : p ≡ 3 ^ (m - 
     sure = λ s. d .sure (subst (λ (n : ℕ). Added n (from at t)) (sym is) (sums-added (m - 1) (from at t) s));
   })
 
+  pub one-sums : {r : Bool} → m ≡ 1 → Decides r (Added p (from at t)) → Decides r (Sums m (from at t))
+  one-sums z d = parts-sums (sums-none (m - 1) (from at t) (omega arith)) (sums-none (m - 1) (from (at + p) t) (omega arith)) d
+
   pub off-sums : Sums m (from at t) → Sums (m - 1) (from at t)
   off-sums s = sums-off (m - 1) (from at t) (subst (λ (n : ℕ). Sums n (from at t)) one-more s)
 
@@ -181,6 +184,28 @@ module _ (m low h : ℕ) (o : ℕ → ℕ) (some : 1 ≤ m) (half : h ≡ 2 ^ (m
         (made-thirds k at (from low o) off
         (subst (λ (f : ℕ → ℕ). Made (at + 3 ^ k) (3 ^ k) (λ x. sumIn k x f) a b) shift (subst (λ (n : ℕ). Made (at + n) (3 ^ k) (λ x. sumIn k x (from (low + h) o)) a b) power on))
         (subst (λ (n : ℕ). Made (at + n * 2) n (sumOf n at b) b c) power free))
+
+-- one mark: what stands at low, what stands behind it, and their sum
+
+pub one-sum : (m low : ℕ) (o : ℕ → ℕ) → m ≡ 1 → sumIn m (allFree m) (from low o) ≡ o low + o (low + 1)
+one-sum m low o is =
+    let e : low + 0 ≡ low = omega arith in
+    let d : low + 1 + 0 ≡ low + 1 = omega arith in
+    ap (λ (n : ℕ). sumIn n (allFree n) (from low o)) is ∙ omega (arith, whole-parts 1 low 1 o (omega arith) refl, one-box (from low o), one-box (from (low + 1) o), ap o e, ap o d)
+
+pub fill-three : (at low : ℕ) (o : ℕ → ℕ) (t : List ℕ) → at + 3 ≤ length t
+    → Made at 3 (λ x. sumIn 1 x (from low o)) t (set (set (set t at (o low)) (at + 1) (o (low + 1))) (at + 2) (o low + o (low + 1)))
+fill-three at low o t l =
+    let a = set t at (o low) in
+    let b = set a (at + 1) (o (low + 1)) in
+    let off = fill-none 0 at low o t refl (omega arith) in
+    let on = fill-none 0 (at + 1) (low + 1) o a refl (omega (arith, length-set t at (o low))) in
+    let e : at + 0 ≡ at = omega arith in
+    let d : at + 0 + 1 ≡ at + 1 = omega arith in
+    let first = ap (entry b) e ∙ getD-set-other a (at + 1) at (o (low + 1)) 0 (λ (w : at ≡ at + 1). omega arith) ∙ getD-set-same t at (o low) 0 (omega arith) in
+    let second = ap (entry b) d ∙ getD-set-same a (at + 1) (o (low + 1)) 0 (omega (arith, off .long)) in
+    fill-step 1 low 1 o (omega arith) refl at 1 refl off on
+    (made-more (at + 2) (o low + o (low + 1)) (made-none (at + 2) (sumOf 1 at b) b) (omega arith) (omega (arith, on .long, off .long)) (omega (arith, first, second)))
 
 -- what stands below b, and one entry at 3^m or above more
 

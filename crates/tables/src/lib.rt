@@ -118,6 +118,10 @@ fn sums_at(m: usize, t: &[u32], at: usize) -> bool
     requires { ⌜ (m ≤ 8) × (at + 3 ^ m ≤ length (now t)) × (at + 3 ^ m ≤ 6561) ⌝ }
     ensures { λ r. ⌜ Decides r (Sums m (from at (entry (now (t .entry))))) ⌝ }
 {
+    // one mark is tested at once, as half of all calls would be for none
+    if m == 1 {
+        return is_added(1, t, at);
+    }
     if m == 0 {
         return true;
     }
@@ -153,6 +157,19 @@ fn join(p: usize, t: &mut [u32], at: usize)
     }
 }
 
+// The three entries from `at` on of the boxes over one mark: what stands at `low`, what stands behind it, and their sum.
+fn fill_one(own: &[u32], low: usize, t: &mut [u32], at: usize)
+    requires { ⌜ (low + 2 ≤ length (now own)) × (at + 3 ≤ length (now t)) ⌝ }
+    requires { ⌜ entry (now own) low + entry (now own) (low + 1) < 2 ^ 32 ⌝ }
+    ensures { λ r. ⌜ Made at 3 (λ b. sumIn 1 b (from low (entry (now (own .entry))))) (now (t .entry)) (now (t .exit)) ⌝ }
+{
+    let off = own[low];
+    let on = own[low + 1];
+    t[at] = off;
+    t[at + 1] = on;
+    t[at + 2] = off + on;
+}
+
 // The entries from `at` on of the boxes over m marks, worked out from what the combinations have of their own, which stands from `low` on: those
 // with the highest mark off, those with it on, and their sums.
 fn fill_at(m: usize, own: &[u32], low: usize, t: &mut [u32], at: usize)
@@ -160,6 +177,11 @@ fn fill_at(m: usize, own: &[u32], low: usize, t: &mut [u32], at: usize)
     requires { ⌜ sumIn m (allFree m) (from low (entry (now own))) < 2 ^ 32 ⌝ }
     ensures { λ r. ⌜ Made at (3 ^ m) (λ b. sumIn m b (from low (entry (now (own .entry))))) (now (t .entry)) (now (t .exit)) ⌝ }
 {
+    // one mark is filled at once, as half of all calls would be for none
+    if m == 1 {
+        fill_one(own, low, t, at);
+        return;
+    }
     if m == 0 {
         t[at] = own[low];
         return;
