@@ -442,11 +442,13 @@ static unsigned single(unsigned c)
 /* The numbers of the lines, from what the combinations have of their own: with the highest mark off, with it on, and with it free their sums. */
 static void fill(unsigned marks, const uint32_t *own, uint32_t *t)
 {
-    if (marks == 0) {
-        *t = *own;
+    if (marks == 1) {
+        t[0] = own[0];
+        t[1] = own[1];
+        t[2] = own[0] + own[1];
         return;
     }
-    unsigned third = marks == 1 ? 1 : VAULT_LINES(marks - 1);
+    unsigned third = VAULT_LINES(marks - 1);
     fill(marks - 1, own, t);
     fill(marks - 1, own + (1u << (marks - 1)), t + third);
     for (unsigned b = 0; b < third; b++)

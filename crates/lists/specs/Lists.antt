@@ -1,5 +1,5 @@
 -- What a fitting list is, and which is the first shortest (01, 'Terms'), over the number of marks m. A set of combinations is a test.
--- `need` has the combinations that a list must cover, `room` those that it may cover: for a class both are the class.
+-- `need` has the combinations that a list must cover, `room` those that it may cover: those that stand in, and those that are not out (02, Q-6).
 use mathlib.Core.Path.{_≡_}
 use mathlib.Core.Logic.{_⊎_}
 use mathlib.Core.Bool.{Bool, true, false, _&&_, _||_}
