@@ -138,16 +138,15 @@ impl Sheet {
     {
         let m = self.marks;
         let c = v.at;
-        let all = boxes::all_through(m, c);
         let mut outside = self.outside;
         let by = v.outside;
-        tables::move_at(m, c, &all, by, &mut outside);
+        tables::move_at(m, c, by, &mut outside);
         let mut either = self.either;
         let more = v.either;
-        tables::move_at(m, c, &all, more, &mut either);
+        tables::move_at(m, c, more, &mut either);
         let mut held = self.held;
         let seconds = v.held;
-        tables::move_at(m, c, &all, seconds, &mut held);
+        tables::move_at(m, c, seconds, &mut held);
         Sheet {
             marks: m,
             outside,

@@ -63,9 +63,7 @@ fn counts_fit(m: usize, c: usize, to: Standing, outside: &[u32], either: &[u32])
     let b = boxes::single(m, c);
     let out = moves::between(outside[b], moves::outs(to));
     let other = moves::between(either[b], moves::eithers(to));
-    let all = boxes::all_through(m, c);
-    tables::fits_at(m, c, &all, out, outside, 0, 1)
-        && tables::fits_at(m, c, &all, other, either, 0, 1)
+    tables::fits_at(m, c, out, outside, 0, 1) && tables::fits_at(m, c, other, either, 0, 1)
 }
 
 // The number of a class change.
@@ -140,9 +138,14 @@ fn amount_number(
     if to_either(more, outside[b], either[b]) {
         return 12;
     }
-    let all = boxes::all_through(m, c);
-    let by = moves::amount_shift(more, d);
-    if tables::fits_at(m, c, &all, by, held, most_after(more), 0) {
+    if tables::fits_at(
+        m,
+        c,
+        moves::amount_shift(more, d),
+        held,
+        most_after(more),
+        0,
+    ) {
         return 0;
     }
     if more {

@@ -4,7 +4,6 @@ ghost use Prim.Native.Nat.{_+_, _*_, _-_, _^_, _<_, _≤_};
 ghost use lib.ListN.{length};
 ghost use Rattle.ground.specs.Decides.{Decides};
 ghost use Rattle.boxes.specs.Boxes.{sumIn, allFree};
-ghost use Rattle.boxes.specs.Parts.{AllThrough};
 ghost use Rattle.tables.specs.Tables.{entry, own, afresh, shifted, moved, fitsShifted, touched, Sums};
 ghost use Rattle.tables.specs.Parts.{Over, Bears, AllBear, staysOf, fitsMoved};
 ghost use Rattle.tables.specs.Thirds.{from, Added, sumOf, FewEach, Made};
@@ -53,41 +52,33 @@ impl Shift {
     }
 }
 
-// Shifts each box that contains the combination c; `all` has these boxes, which the caller works out once for all its tables.
-pub fn move_at(m: usize, c: usize, all: &[u16; 256], by: Shift, t: &mut [u32])
+// Shifts each box that contains the combination c.
+pub fn move_at(m: usize, c: usize, by: Shift, t: &mut [u32])
     requires { ⌜ Over m c (now t) ⌝ }
     requires { ⌜ AllBear m c by (now t) ⌝ }
-    requires { ⌜ AllThrough m c (now all) ⌝ }
     ensures { λ r. ⌜ now (t .exit) ≡ moved m c by (now (t .entry)) ⌝ }
 {
     if by.is_none() {
         return;
     }
+    let all = boxes::all_through(m, c);
     let turns = boxes::power2(m);
     for k in 0..turns {
-        let b = boxes::through(m, c, all, k);
+        let b = boxes::through(m, c, &all, k);
         t[b] = by.of(t[b]);
     }
 }
 
 // Whether each entry of a box that contains the combination c, shifted, is 0 to `most` and `each` more for each combination of the box.
-pub fn fits_at(
-    m: usize,
-    c: usize,
-    all: &[u16; 256],
-    by: Shift,
-    t: &[u32],
-    most: u64,
-    each: u64,
-) -> bool
+pub fn fits_at(m: usize, c: usize, by: Shift, t: &[u32], most: u64, each: u64) -> bool
     requires { ⌜ Over m c (now t) ⌝ }
     requires { ⌜ (most < 2 ^ 33) × (each ≤ 1) ⌝ }
-    requires { ⌜ AllThrough m c (now all) ⌝ }
     ensures { λ r. ⌜ r ≡ touched m c (fitsMoved m by (now (t .entry)) most each) ⌝ }
 {
+    let all = boxes::all_through(m, c);
     let n = boxes::power2(m);
     for k in 0..n {
-        let b = boxes::through(m, c, all, k);
+        let b = boxes::through(m, c, &all, k);
         let size = boxes::power2(usize::count_ones(k) as usize) as u64;
         if !by.fits(t[b], most + each * size) {
             return false;
@@ -102,15 +93,15 @@ fn is_added(p: usize, t: &[u32], at: usize) -> bool
     requires { ⌜ (p ≤ 6561) × (at ≤ 6561) × (at + p * 3 ≤ length (now t)) ⌝ }
     ensures { λ r. ⌜ Decides r (Added p (from at (entry (now (t .entry))))) ⌝ }
 {
+    let mut right = true;
+    // it tests all, right or wrong, so that several can be tested at once
     for b in 0..p {
         let off = at + b;
         let on = off + p;
         let free = on + p;
-        if ground::wide(t[free]) != ground::wide(t[off]) + ground::wide(t[on]) {
-            return false;
-        }
+        right = right & (ground::wide(t[free]) == ground::wide(t[off]) + ground::wide(t[on]));
     }
-    true
+    right
 }
 
 // Whether each of the entries from `at` on, of the boxes over m marks, is the sum over its box.

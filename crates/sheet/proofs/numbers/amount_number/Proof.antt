@@ -51,7 +51,7 @@ told c =
 
 -- the touched entries, after the move
 abbrev single-of : tie.After-fits-at → tie.After-single
-single-of c = c .before .before .before .before .before .before .before .before .before
+single-of c = c .before .before .before .before .before .before .before
 
 judged : (c : tie.After-fits-at)
     → let a = start (first (single-of c)) .args in touched (a .m) (a .c) (fitsAmount (a .more) (a .d) (a .held .now)) ≡ c .fits-at .result
@@ -59,7 +59,7 @@ judged c =
     let e = first (single-of c) in
     let a = start e .args in
     sym (c .fits-at .ensures
-    ∙ ap₂ (λ (v : Shift) (top : ℕ). touched (a .m) (a .c) (fitsMoved (a .m) v (a .held .now) top 0)) (c .before .before .before .amount-shift .ensures) (c .before .most-after .ensures)
+    ∙ ap₂ (λ (v : Shift) (top : ℕ). touched (a .m) (a .c) (fitsMoved (a .m) v (a .held .now) top 0)) (c .before .before .amount-shift .ensures) (c .before .most-after .ensures)
     ∙ touched-ext (a .m) (a .c) _ _ (λ b h. amount-bounds (a .m) (a .more) (a .d) (a .held .now) b (e .before .before .shared-slice-known3 .given b .fits)))
 
 returns : tie.Need-returns
@@ -94,29 +94,26 @@ returns-4 c =
     let e = first r in
     sym (amount-12 _ _ (sheetIn (start e)) _ _ (marks e) (low (r .before .before .before)) (amount (r .before)) (told (c .before) ∙ c .if4 .taken))
 
-all-through-requires : tie.Need-all-through-requires
-all-through-requires c κs = omega (arith, marks-most mostMarks _ (marks (first (c .before .before .before .before))))
-
 amount-shift-requires : tie.Need-amount-shift-requires
-amount-shift-requires c κs = omega (arith, amount-most _ (amount (c .before .before .before .before .before .before)))
+amount-shift-requires c κs = omega (arith, amount-most _ (amount (c .before .before .before .before .before)))
 
 fits-at-requires : tie.Need-fits-at-requires
 fits-at-requires c κs =
-    let r = c .before .before .before .before .before .before .before .before in
+    let r = c .before .before .before .before .before .before in
     let ok = marks (first r) in (
       record {
         marks = omega (arith, marks-most mostMarks _ ok);
         low = low (r .before .before .before);
         long = omega (arith, boxes-fit _ ok, start (first r) .pre .2);
       },
-      ((omega (arith, c .most-after .ensures, top-small (start (first r) .args .more)), omega arith), c .before .before .before .all-through .ensures),
+      (omega (arith, c .most-after .ensures, top-small (start (first r) .args .more)), omega arith),
     )
 
 returns-5 : tie.Need-returns-5
 returns-5 c =
     let f = c .before in
     let r = single-of f in
-    let o = f .before .before .before .before .before in
+    let o = f .before .before .before in
     let e = first r in
     sym (amount-0 _ _ (sheetIn (start e)) _ _ (marks e) (low (r .before .before .before)) (amount (r .before)) (told (o .before) ∙ o .if4 .left) (judged f ∙ c .if5 .taken))
 
@@ -124,7 +121,7 @@ last : (c : tie.Else5) → let s = start (first (single-of (c .before))) in amou
 last c =
     let f = c .before in
     let r = single-of f in
-    let o = f .before .before .before .before .before in
+    let o = f .before .before .before in
     let e = first r in
     amount-last _ _ (sheetIn (start e)) _ _ (marks e) (low (r .before .before .before)) (amount (r .before)) (told (o .before) ∙ o .if4 .left) (judged f ∙ c .if5 .left)
 
@@ -137,5 +134,5 @@ returns-7 c = sym (last (c .before) ∙ ap (λ (t : Bool). cond t 8 9) (c .if6 .
 pub amount-number-spec : {M : Type 1} → statement M
 amount-number-spec = tie.close (tie.spec
     (λ c κs. search needs) returns power2-requires returns-2 (λ c κs. search needs) returns-3 single-requires mul-to-either shared-slice-read-to-either
-    (λ c. mul-to-either (c .before)) shared-slice-read-to-either-2 (λ c κs. search needs) returns-4 all-through-requires amount-shift-requires
+    (λ c. mul-to-either (c .before)) shared-slice-read-to-either-2 (λ c κs. search needs) returns-4 amount-shift-requires
     (λ c κs. search needs) fits-at-requires returns-5 returns-6 returns-7)

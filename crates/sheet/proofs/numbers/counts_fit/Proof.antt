@@ -1,8 +1,7 @@
 -- Each table of counts is judged by its own shift.
-use Prim.Native.Nat.{ℕ, _≤_}
+use Prim.Native.Nat.{ℕ}
 use mathlib.Core.Bool.{Bool, true, false, _&&_}
 use mathlib.Core.List.{List}
-use lib.ListN.{length}
 use mathlib.Core.Path.{_≡_, sym, _∙_, ap, ap₂}
 use native.Mathlib.Omega.{arith}
 use borrow.Author.Needs.{needs}
@@ -10,7 +9,6 @@ use Rattle.tables.specs.declared.Shift.{Shift}
 use Rattle.tables.specs.Tables.{entry, own, touched}
 use Rattle.tables.specs.Parts.{Over, fitsMoved}
 use Rattle.tables.proofs.Touched.{touched-ext}
-use Rattle.sheet.specs.Limits.{entries}
 use Rattle.sheet.specs.Record.{outs, eithers}
 use Rattle.sheet.specs.Calls.{between, fitsCount}
 use Rattle.sheet.proofs.Tests.{count-bounds}
@@ -42,53 +40,47 @@ shared-slice-read-between-2 c =
     let u = c .before .before .before .before in
     omega (arith, u .single .ensures .1, boxes-within _ (start u .pre .0), start u .pre .3)
 
-bounds : (c : tie.After-single) (t : List ℕ) → entries ≤ length t → Over (start c .args .m) (start c .args .c) t
-bounds c t l = let s = start c in record { marks = omega (arith, s .pre .0); low = s .pre .1; long = omega (arith, boxes-within _ (s .pre .0), l) }
-
-all-through-requires : tie.Need-all-through-requires
-all-through-requires c κs = omega (arith, start (c .before .before .before .before .before .before) .pre .0)
-
 fits-at-requires : tie.Need-fits-at-requires
 fits-at-requires c κs =
-    let u = c .before .before .before .before .before .before .before .before in
-    (bounds u _ (start u .pre .2), ((omega arith, omega arith), c .before .all-through .ensures))
+    let s = start (c .before .before .before .before .before .before) in
+    (record { marks = omega (arith, s .pre .0); low = s .pre .1; long = omega (arith, boxes-within _ (s .pre .0), s .pre .2) }, (omega arith, omega arith))
 
 fits-at-requires-2 : tie.Need-fits-at-requires-2
 fits-at-requires-2 c κs =
-    let u = c .before .before .before .before .before .before .before .before .before .before .before in
-    (bounds u _ (start u .pre .3), ((omega arith, omega arith), c .before .before .before .before .all-through .ensures))
+    let s = start (c .before .before .before .before .before .before .before .before) in
+    (record { marks = omega (arith, s .pre .0); low = s .pre .1; long = omega (arith, boxes-within _ (s .pre .0), s .pre .3) }, (omega arith, omega arith))
 
 outside-fits : (c : tie.After-fits-at)
-    → let s = start (c .before .before .before .before .before .before .before .before .before) .args in
+    → let s = start (c .before .before .before .before .before .before .before) .args in
     c .fits-at .result ≡ touched (s .m) (s .c) (fitsCount (s .m) (between (own (s .m) (s .outside .now) (s .c)) (outs (s .to))) (s .outside .now))
 outside-fits c =
-    let u = c .before .before .before .before .before .before .before .before .before in
+    let u = c .before .before .before .before .before .before .before in
     let s = start u .args in
     judged (s .m) (s .c) _ _ _ (s .outside .now) _ (c .fits-at .ensures)
-    (c .before .before .before .before .before .before .between .ensures ∙ ap (between _) (c .before .before .before .before .before .before .before .outs .ensures)) (own-is u (s .outside .now))
+    (c .before .before .before .before .between .ensures ∙ ap (between _) (c .before .before .before .before .before .outs .ensures)) (own-is u (s .outside .now))
 
 either-fits : (c : tie.After-fits-at2)
-    → let s = start (c .before .before .before .before .before .before .before .before .before .before .before .before) .args in
+    → let s = start (c .before .before .before .before .before .before .before .before .before) .args in
     c .fits-at2 .result ≡ touched (s .m) (s .c) (fitsCount (s .m) (between (own (s .m) (s .either .now) (s .c)) (eithers (s .to))) (s .either .now))
 either-fits c =
-    let u = c .before .before .before .before .before .before .before .before .before .before .before .before in
+    let u = c .before .before .before .before .before .before .before .before .before in
     let s = start u .args in
     judged (s .m) (s .c) _ _ _ (s .either .now) _ (c .fits-at2 .ensures)
-    (c .before .before .before .before .before .before .between2 .ensures ∙ ap (between _) (c .before .before .before .before .before .before .before .eithers .ensures)) (own-is u (s .either .now))
+    (c .before .before .before .between2 .ensures ∙ ap (between _) (c .before .before .before .before .eithers .ensures)) (own-is u (s .either .now))
 
 returns : tie.Need-returns
 returns c held =
-    let s = start (c .before .before .before .before .before .before .before .before .before .before .before .before) .args in
+    let s = start (c .before .before .before .before .before .before .before .before .before) .args in
     let either = touched (s .m) (s .c) (fitsCount (s .m) (between (own (s .m) (s .either .now) (s .c)) (eithers (s .to))) (s .either .now)) in
-    either-fits c ∙ ap (λ (t : Bool). t && either) (sym (c .before .before .if1 .taken) ∙ outside-fits (c .before .before .before))
+    either-fits c ∙ ap (λ (t : Bool). t && either) (sym (c .before .if1 .taken) ∙ outside-fits (c .before .before))
 
 returns-2 : tie.Need-returns-2
 returns-2 c held =
-    let s = start (c .before .before .before .before .before .before .before .before .before .before) .args in
+    let s = start (c .before .before .before .before .before .before .before .before) .args in
     let either = touched (s .m) (s .c) (fitsCount (s .m) (between (own (s .m) (s .either .now) (s .c)) (eithers (s .to))) (s .either .now)) in
     c .if1 .left ∙ ap (λ (t : Bool). t && either) (sym (c .if1 .left) ∙ outside-fits (c .before))
 
 pub counts-fit-spec : {M : Type 1} → statement M
 counts-fit-spec = tie.close (tie.spec
     (λ c κs. search needs) mul-between shared-slice-read-between (λ c κs. search needs) (λ c κs. search needs) (λ c. mul-between (c .before .before .before))
-    shared-slice-read-between-2 (λ c κs. search needs) (λ c κs. search needs) all-through-requires fits-at-requires fits-at-requires-2 returns returns-2)
+    shared-slice-read-between-2 (λ c κs. search needs) (λ c κs. search needs) fits-at-requires fits-at-requires-2 returns returns-2)
