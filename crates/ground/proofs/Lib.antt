@@ -4,3 +4,4 @@ pub mod Areas
 pub mod Beginnings
 pub mod Without
 pub mod Figures
+pub mod Filled

@@ -14,6 +14,7 @@ use Rattle.tables.specs.declared.Shift.{Shift}
 use Rattle.tables.specs.Tables.{entry, own, fitsShifted, touched, moved}
 use Rattle.tables.proofs.Shifts.{moved-same, moved-above}
 use Rattle.tables.proofs.Touched.{touched-ext}
+use Rattle.profiles.specs.declared.Profile.{Profile}
 use Rattle.sheet.specs.declared.Call.{Call}
 use Rattle.sheet.specs.declared.Call.the-variants.{Change, Receive, Withdraw}
 use Rattle.sheet.specs.declared.Move.{Move}
@@ -42,9 +43,9 @@ unfolding fitsAmount
 amounts-same m c more d t u h =
     touched-ext m c (fitsAmount more d t) (fitsAmount more d u) (λ b e. ap (λ (x : ℕ). cond more (leb (x + d) mostHeld) (leb d x)) (h b (contains-box m b c e)))
 
--- a sheet's tables, taken over m marks
-abbrev over : ℕ → Sheet → Sheet
-over m s = sheetWith m (s .outside) (s .either) (s .held)
+-- a sheet's tables, taken over m marks and a profile
+abbrev over : ℕ → Profile → Sheet → Sheet
+over m p s = sheetWith m p (s .outside) (s .either) (s .held)
 
 -- sheets that agree
 
@@ -58,11 +59,11 @@ alike n k s u s′ u′ e old new = record {
 }
 
 -- of one number of marks
-module _ (m c : ℕ) (s u : Sheet) (same : (t : Table) → Same m (kept t s) (kept t u)) where
+module _ (m : ℕ) (p : Profile) (c : ℕ) (s u : Sheet) (same : (t : Table) → Same m (kept t s) (kept t u)) where
   own-same : (t : Table) → own m (kept t s) c ≡ own m (kept t u) c
   own-same t = same t (single m c) (through-lt m c 0)
 
-  change-same : (to : Standing) → changeNo mostMarks to (over m s) c ≡ changeNo mostMarks to (over m u) c
+  change-same : (to : Standing) → changeNo mostMarks to (over m p s) c ≡ changeNo mostMarks to (over m p u) c
   unfolding changeNo
   change-same to =
       rw (
@@ -73,25 +74,25 @@ module _ (m c : ℕ) (s u : Sheet) (same : (t : Table) → Same m (kept t s) (ke
         counts-same m c (between (own m (u .either) c) (eithers to)) (s .either) (u .either) (same either-counts),
       )
 
-  amount-same : (more : Bool) (d : ℕ) → amountNo mostMarks more (over m s) c d ≡ amountNo mostMarks more (over m u) c d
+  amount-same : (more : Bool) (d : ℕ) → amountNo mostMarks more (over m p s) c d ≡ amountNo mostMarks more (over m p u) c d
   unfolding amountNo
   amount-same more d = rw (own-same outside-counts, own-same either-counts, amounts-same m c more d (s .held) (u .held) (same held-seconds))
 
-  move-same : (to : Standing) → moveOf (over m s) (Change to c) ≡ moveOf (over m u) (Change to c)
+  move-same : (to : Standing) → moveOf (over m p s) (Change to c) ≡ moveOf (over m p u) (Change to c)
   move-same to = ap₂ (λ (x y : ℕ). changeMove x y to c) (own-same outside-counts) (own-same either-counts)
 
 module _ (s u : Sheet) (a : Agree s u) where
   amount-number-same : (more : Bool) (c d : ℕ) → amountNo mostMarks more s c d ≡ amountNo mostMarks more u c d
-  amount-number-same more c d = amount-same (s .marks) c s u (a .tables) more d ∙ ap (λ (m : ℕ). amountNo mostMarks more (over m u) c d) (a .marks)
+  amount-number-same more c d = amount-same (s .marks) (s .profile) c s u (a .tables) more d ∙ ap₂ (λ (m : ℕ) (p : Profile). amountNo mostMarks more (over m p u) c d) (a .marks) (a .profile)
 
   number-same : (k : Call) → numberOn mostMarks s k ≡ numberOn mostMarks u k
-  number-same (Change to c) = change-same (s .marks) c s u (a .tables) to ∙ ap (λ (m : ℕ). changeNo mostMarks to (over m u) c) (a .marks)
+  number-same (Change to c) = change-same (s .marks) (s .profile) c s u (a .tables) to ∙ ap₂ (λ (m : ℕ) (p : Profile). changeNo mostMarks to (over m p u) c) (a .marks) (a .profile)
   number-same (Receive c d) = amount-number-same true c d
   number-same (Withdraw c d) = amount-number-same false c d
 
   -- the call makes the same move
   call-same : (k : Call) → moveOf s k ≡ moveOf u k
-  call-same (Change to c) = move-same (s .marks) c s u (a .tables) to ∙ ap (λ (m : ℕ). moveOf (over m u) (Change to c)) (a .marks)
+  call-same (Change to c) = move-same (s .marks) (s .profile) c s u (a .tables) to ∙ ap₂ (λ (m : ℕ) (p : Profile). moveOf (over m p u) (Change to c)) (a .marks) (a .profile)
   call-same (Receive c d) = refl
   call-same (Withdraw c d) = refl
 
@@ -101,6 +102,7 @@ module _ (s u : Sheet) (a : Agree s u) where
         let room = boxes-fit (s .marks) ok in
         record {
           marks = a .marks;
+          profile = a .profile;
           tables = λ t b l.
               ap (λ (x : List ℕ). entry x b) (table-moved v s t)
               ∙ moved-same (s .marks) (v .at) (shiftIn t v) (kept t s) (kept t u) (omega (arith, ls t)) (omega (arith, lu t)) (a .tables t) b l

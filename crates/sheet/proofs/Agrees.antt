@@ -9,18 +9,19 @@ use native.Mathlib.Omega.{arith}
 use Rattle.boxes.specs.Boxes.{sumIn, single, allFree}
 use Rattle.boxes.proofs.Choices.{through-lt}
 use Rattle.tables.specs.Tables.{entry, own, Sums}
+use Rattle.profiles.specs.declared.Profile.{Profile}
 use Rattle.sheet.specs.declared.Sheet.{Sheet}
 use Rattle.sheet.specs.declared.Standing.the-variants.{Out, Either}
 use Rattle.sheet.specs.declared.Value.{Value}
 use Rattle.sheet.specs.Limits.{marksOk}
 use Rattle.sheet.specs.Record.{Record, inClass, Table, outside-counts, either-counts, held-seconds, kept}
-use Rattle.sheet.specs.Sound.{ClassSound, TimesSound, ClassReady, Ready, tells, toldBy, recordOf, sizeOf}
+use Rattle.sheet.specs.Sound.{CountsSound, ClassSound, TimesSound, ClassReady, Ready, tells, toldBy, recordOf, sizeOf}
 use Rattle.sheet.specs.Calls.{ClassSize}
 use Rattle.sheet.specs.Promises.{Agree}
 
 -- what own numbers tell
-abbrev recordFrom : ℕ → (ℕ → ℕ) → (ℕ → ℕ) → (ℕ → ℕ) → Record
-recordFrom m f g h = record { marks = m; standing = λ c. cond (ltb c (2 ^ m)) (toldBy (f c) (g c)) Out; times = h }
+abbrev recordFrom : ℕ → Profile → (ℕ → ℕ) → (ℕ → ℕ) → (ℕ → ℕ) → Record
+recordFrom m p f g h = record { marks = m; profile = p; standing = λ c. cond (ltb c (2 ^ m)) (toldBy (f c) (g c)) Out; times = h }
 
 -- two tables with the same entries of boxes
 module _ (m : ℕ) (t u : List ℕ) (same : (b : ℕ) → b < 3 ^ m → entry t b ≡ entry u b) where
@@ -38,12 +39,19 @@ module _ (m : ℕ) (s u : Sheet) (same : (t : Table) (b : ℕ) → b < 3 ^ m →
   sums : (t : Table) → Sums m (entry (kept t s)) → Sums m (entry (kept t u))
   sums t = sums-same m (kept t s) (kept t u) (same t)
 
-  class-sound-same : ClassSound m (s .outside) (s .either) → ClassSound m (u .outside) (u .either)
-  class-sound-same w = record {
+  counts-sound-same : CountsSound m (s .outside) (s .either) → CountsSound m (u .outside) (u .either)
+  counts-sound-same w = record {
     outsides = sums outside-counts (w .outsides);
     eithers = sums either-counts (w .eithers);
     tells = λ c l. subst (λ (f : ℕ → ℕ). f c + own m (u .either) c ≤ 1) (owns outside-counts)
         (subst (λ (f : ℕ → ℕ). own m (s .outside) c + f c ≤ 1) (owns either-counts) (w .tells c l));
+  }
+
+  class-sound-same : {p : Profile} → ClassSound m p (s .outside) (s .either) → ClassSound m p (u .outside) (u .either)
+  class-sound-same w = record {
+    counts = counts-sound-same (w .counts);
+    profile = w .profile;
+    obeys = λ c l b. sym (ap₂ (λ (f g : ℕ → ℕ). tells Either (f c) (g c)) (owns outside-counts) (owns either-counts)) ∙ w .obeys c l b;
   }
 
   times-sound-same : TimesSound m (s .outside) (s .either) (s .held) → TimesSound m (u .outside) (u .either) (u .held)
@@ -56,29 +64,31 @@ module _ (m : ℕ) (s u : Sheet) (same : (t : Table) (b : ℕ) → b < 3 ^ m →
             ∙ w .apart c l (ap₂ (λ (f g : ℕ → ℕ). tells Either (f c) (g c)) (owns outside-counts) (owns either-counts) ∙ t);
       }
 
-  told-same : recordFrom m (own m (s .outside)) (own m (s .either)) (own m (s .held)) ≡ recordFrom m (own m (u .outside)) (own m (u .either)) (own m (u .held))
-  told-same =
-      ap (λ (f : ℕ → ℕ). recordFrom m f (own m (s .either)) (own m (s .held))) (owns outside-counts)
-      ∙ ap₂ (λ (f g : ℕ → ℕ). recordFrom m (own m (u .outside)) f g) (owns either-counts) (owns held-seconds)
+  told-same : (p : Profile) → recordFrom m p (own m (s .outside)) (own m (s .either)) (own m (s .held)) ≡ recordFrom m p (own m (u .outside)) (own m (u .either)) (own m (u .held))
+  told-same p =
+      ap (λ (f : ℕ → ℕ). recordFrom m p f (own m (s .either)) (own m (s .held))) (owns outside-counts)
+      ∙ ap₂ (λ (f g : ℕ → ℕ). recordFrom m p (own m (u .outside)) f g) (owns either-counts) (owns held-seconds)
 
 module _ {s u : Sheet} (a : Agree s u) where
   pub agree-back : Agree u s
   agree-back = record {
     marks = sym (a .marks);
+    profile = sym (a .profile);
     tables = λ t b l. sym (a .tables t b (subst (λ (m : ℕ). b < 3 ^ m) (sym (a .marks)) l));
   }
 
   -- the same record
   pub record-same : recordOf s ≡ recordOf u
   record-same =
-      told-same (s .marks) s u (a .tables) ∙ ap (λ (m : ℕ). recordFrom m (own m (u .outside)) (own m (u .either)) (own m (u .held))) (a .marks)
+      told-same (s .marks) s u (a .tables) (s .profile)
+      ∙ ap₂ (λ (m : ℕ) (p : Profile). recordFrom m p (own m (u .outside)) (own m (u .either)) (own m (u .held))) (a .marks) (a .profile)
 
   -- fit for the same calls
 
-  class-same : ClassSound (s .marks) (s .outside) (s .either) → ClassSound (u .marks) (u .outside) (u .either)
+  class-same : ClassSound (s .marks) (s .profile) (s .outside) (s .either) → ClassSound (u .marks) (u .profile) (u .outside) (u .either)
   class-same w =
-      subst (λ (m : ℕ). ClassSound m (u .outside) (u .either)) (a .marks)
-      (class-sound-same (s .marks) s u (a .tables) w)
+      subst (λ (m : ℕ). ClassSound m (u .profile) (u .outside) (u .either)) (a .marks)
+      (subst (λ (p : Profile). ClassSound (s .marks) p (u .outside) (u .either)) (a .profile) (class-sound-same (s .marks) s u (a .tables) w))
 
   pub class-ready-same : {most : ℕ} → ClassReady most s → ClassReady most u
   class-ready-same {most} r = record { marks = subst (λ (m : ℕ). marksOk most m ≡ true) (a .marks) (r .marks); class = class-same (r .class) }

@@ -36,7 +36,7 @@ module _ (s : Sheet) (v : Move) (w : Accepted s v) where
       subst (Shifted (s .marks) (v .at) (shiftIn t v) (kept t s)) (sym (table-moved v s t)) (moved-shifted (s .marks) (v .at) (shiftIn t v) (kept t s) (w .bear t))
 
   altered : Altered v s (movedSheet v s)
-  altered = record { marks = refl; tables = table-shifted; some = w .some; moves = w .moves }
+  altered = record { marks = refl; profile = refl; tables = table-shifted; some = w .some; moves = w .moves }
 
 pub did-alters : (s : Sheet) (k : Call) → didOf mostMarks s k .number ≡ 0 → Altered (moveOf s k) s (didOf mostMarks s k .sheet)
 did-alters s k z =

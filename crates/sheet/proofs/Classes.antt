@@ -13,7 +13,7 @@ use Rattle.ground.proofs.Cases.{mark}
 use Rattle.boxes.proofs.Sums.{sum-ext, sum-add, sum-ones}
 use Rattle.tables.specs.Tables.{entry, own, Sums}
 use Rattle.sheet.specs.Record.{isIn, inClass}
-use Rattle.sheet.specs.Sound.{ClassSound, toldBy, recordOf, sizeOf}
+use Rattle.sheet.specs.Sound.{CountsSound, toldBy, recordOf, sizeOf}
 use Rattle.sheet.specs.declared.Sheet.{Sheet}
 use Rattle.sheet.specs.declared.Standing.the-variants.{Out}
 
@@ -29,7 +29,7 @@ all-counted m t sums =
     let p : 1 ≤ 3 ^ m = one-le-pow m 3 (omega arith) in
     sums (allFree m) (omega arith) ∙ sumIn-all m (own m t)
 
-pub size-counted : (s : Sheet) → ClassSound (s .marks) (s .outside) (s .either)
+pub size-counted : (s : Sheet) → CountsSound (s .marks) (s .outside) (s .either)
     → sizeOf (s .marks) (inClass (recordOf s)) + entry (s .outside) (allFree (s .marks)) + entry (s .either) (allFree (s .marks)) ≡ 2 ^ s .marks
 size-counted s sound =
     let m = s .marks in

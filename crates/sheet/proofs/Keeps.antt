@@ -8,7 +8,7 @@ use lib.Dec.{leb, ltb}
 use mathlib.Core.List.{List}
 use lib.ListN.{length}
 use borrow.Author.Tests.{leb-true, ltb-false}
-use Rattle.ground.proofs.Cases.{if, same-or, clash}
+use Rattle.ground.proofs.Cases.{if, same-or, clash, and-right}
 use Rattle.boxes.specs.Boxes.{allFree}
 use Rattle.boxes.proofs.Boxes.{contains-all}
 use Rattle.boxes.proofs.Sums.{sum-zero}
@@ -17,22 +17,25 @@ use Rattle.tables.specs.declared.Shift.the-variants.{Stays}
 use Rattle.tables.specs.Tables.{entry, own, Sums, Shifts}
 use Rattle.tables.specs.Parts.{ShiftsAt}
 use Rattle.tables.proofs.Shifts.{own-shifts, shifted-sums, moved-stays}
+use Rattle.profiles.specs.Profiles.{breaks, profileOk, countOk, profileOf, namesOk}
+use Rattle.profiles.specs.declared.Profile.{Profile}
+use Rattle.profiles.specs.declared.Profile.the-variants.{None}
 use Rattle.sheet.specs.declared.Call.{Call}
 use Rattle.sheet.specs.declared.Call.the-variants.{Change, Receive, Withdraw}
 use Rattle.sheet.specs.declared.Move.{Move}
 use Rattle.sheet.specs.declared.Sheet.{Sheet}
 use Rattle.sheet.specs.declared.Standing.{Standing}
-use Rattle.sheet.specs.declared.Standing.the-variants.{Either, Out}
+use Rattle.sheet.specs.declared.Standing.the-variants.{Either}
 use Rattle.sheet.specs.declared.Answer.{Answer}
 use Rattle.sheet.specs.Limits.{marksOk, mostMarks, mostHeld, entries}
-use Rattle.sheet.specs.Record.{isEither, outs, eithers, Table, outside-counts, either-counts, held-seconds, kept, sheetOf, opened}
-use Rattle.sheet.specs.Sound.{tells, ownIn, ClassSound, Apart, TimesSound, ClassReady, Ready}
-use Rattle.sheet.specs.Calls.{openOf, between, amountShift, amountMove, moveOf, shiftIn, movedSheet, numberOn, didOf}
+use Rattle.sheet.specs.Record.{isEither, outs, eithers, Table, outside-counts, either-counts, held-seconds, kept, sheetOf, openedUnder}
+use Rattle.sheet.specs.Sound.{tells, ownIn, CountsSound, ClassSound, Apart, TimesSound, ClassReady, Ready}
+use Rattle.sheet.specs.Calls.{openOf, openUnderOf, between, amountShift, amountMove, moveOf, shiftIn, movedSheet, numberOn, didOf}
 use Rattle.sheet.specs.Promises.{Long}
 use Rattle.sheet.specs.Parts.{Accepted}
-use Rattle.sheet.proofs.Answers.{open-done, open-refused}
+use Rattle.sheet.proofs.Answers.{open-done, open-refused, open-under-done, open-under-faulty, open-under-refused}
 use Rattle.sheet.proofs.Between.{by-between}
-use Rattle.sheet.proofs.Kept.{adds-one, tells-either, class-sound, times-sound}
+use Rattle.sheet.proofs.Kept.{adds-one, tells-either, class-sound, times-sound, opened-obeys}
 use Rattle.sheet.proofs.Alters.{by-answer, table-moved, table-shifted}
 use Rattle.sheet.proofs.Tests.{ChangePassed, AmountPassed, changes, amounts, accepts, boxes-fit, amount-fits}
 
@@ -68,17 +71,17 @@ module _ (s : Sheet) (long : Long entries s) where
         (contains-all (s .marks) (v .at) (a .low))
 
     -- what holds of the own numbers of the move's combination afterwards, and of each combination before, holds of each afterwards
-    each-own : (P : ℕ → ℕ → ℕ → Type 0)
-        → (let u = movedSheet v s in P (ownIn outside-counts u (v .at)) (ownIn either-counts u (v .at)) (ownIn held-seconds u (v .at)))
-        → ((c : ℕ) → c < 2 ^ s .marks → P (ownIn outside-counts s c) (ownIn either-counts s c) (ownIn held-seconds s c))
-        → (c : ℕ) → c < 2 ^ s .marks → (let u = movedSheet v s in P (ownIn outside-counts u c) (ownIn either-counts u c) (ownIn held-seconds u c))
+    each-own : (P : ℕ → ℕ → ℕ → ℕ → Type 0)
+        → (let u = movedSheet v s in P (v .at) (ownIn outside-counts u (v .at)) (ownIn either-counts u (v .at)) (ownIn held-seconds u (v .at)))
+        → ((c : ℕ) → c < 2 ^ s .marks → P c (ownIn outside-counts s c) (ownIn either-counts s c) (ownIn held-seconds s c))
+        → (c : ℕ) → c < 2 ^ s .marks → (let u = movedSheet v s in P c (ownIn outside-counts u c) (ownIn either-counts u c) (ownIn held-seconds u c))
     each-own P here before c l =
         let u = movedSheet v s in
         same-or c (v .at)
-        (λ e. subst (λ (x : ℕ). P (ownIn outside-counts u x) (ownIn either-counts u x) (ownIn held-seconds u x)) (sym e) here)
-        (λ n. subst (λ (x : ℕ). P x (ownIn either-counts u c) (ownIn held-seconds u c)) (sym (own-moved outside-counts .others c l n))
-        (subst (λ (x : ℕ). P (ownIn outside-counts s c) x (ownIn held-seconds u c)) (sym (own-moved either-counts .others c l n))
-        (subst (P (ownIn outside-counts s c) (ownIn either-counts s c)) (sym (own-moved held-seconds .others c l n)) (before c l))))
+        (λ e. subst (λ (x : ℕ). P x (ownIn outside-counts u x) (ownIn either-counts u x) (ownIn held-seconds u x)) (sym e) here)
+        (λ n. subst (λ (x : ℕ). P c x (ownIn either-counts u c) (ownIn held-seconds u c)) (sym (own-moved outside-counts .others c l n))
+        (subst (λ (x : ℕ). P c (ownIn outside-counts s c) x (ownIn held-seconds u c)) (sym (own-moved either-counts .others c l n))
+        (subst (P c (ownIn outside-counts s c) (ownIn either-counts s c)) (sym (own-moved held-seconds .others c l n)) (before c l))))
 
   -- a class change leaves the own counts of its new standing
   module _ (to : Standing) (c : ℕ) (z : numberOn mostMarks s (Change to c) ≡ 0) where
@@ -102,7 +105,7 @@ module _ (s : Sheet) (long : Long entries s) where
     eithers-still : ownIn either-counts paid c ≡ ownIn either-counts s c
     eithers-still = own-moved (amountMove more c d) a either-counts .here
 
-  module _ (sound : ClassSound (s .marks) (s .outside) (s .either)) where
+  module _ (sound : CountsSound (s .marks) (s .outside) (s .either)) where
     tells-here : (k : Call) → numberOn mostMarks s k ≡ 0
         → let u = movedSheet (moveOf s k) s in ownIn outside-counts u (moveOf s k .at) + ownIn either-counts u (moveOf s k .at) ≤ 1
     tells-here (Change to c) z = omega (arith, outs-now to c z, eithers-now to c z, adds-one to)
@@ -111,15 +114,36 @@ module _ (s : Sheet) (long : Long entries s) where
     tells-here (Withdraw c d) z =
         let a = accepts s (Withdraw c d) z in omega (arith, outs-still false c d a, eithers-still false c d a, sound .tells c (a .low))
 
-    class-after : (k : Call) → numberOn mostMarks s k ≡ 0 → let u = movedSheet (moveOf s k) s in ClassSound (s .marks) (u .outside) (u .either)
-    class-after k z =
+    counts-after : (k : Call) → numberOn mostMarks s k ≡ 0 → let u = movedSheet (moveOf s k) s in CountsSound (s .marks) (u .outside) (u .either)
+    counts-after k z =
         let v = moveOf s k in
         let a = accepts s k z in
         record {
           outsides = sums-moved v a outside-counts (sound .outsides);
           eithers = sums-moved v a either-counts (sound .eithers);
-          tells = each-own v a (λ (x y h : ℕ). x + y ≤ 1) (tells-here k z) (sound .tells);
+          tells = each-own v a (λ (c x y h : ℕ). x + y ≤ 1) (tells-here k z) (sound .tells);
         }
+
+  module _ (sound : ClassSound (s .marks) (s .profile) (s .outside) (s .either)) where
+    -- a class change is of no combination that breaks the profile, and nothing else changes how one stands
+    obeys-here : (k : Call) → numberOn mostMarks s k ≡ 0
+        → let u = movedSheet (moveOf s k) s in
+        let c = moveOf s k .at in
+        breaks (s .marks) (s .profile) c ≡ true → tells Either (ownIn outside-counts u c) (ownIn either-counts u c) ≡ true
+    obeys-here (Change to c) z b = clash (rw (b, sound .profile)) (changes mostMarks to s c z .free)
+    obeys-here (Receive c d) z b =
+        let a = accepts s (Receive c d) z in
+        ap₂ (tells Either) (outs-still true c d a) (eithers-still true c d a) ∙ sound .obeys c (a .low) b
+    obeys-here (Withdraw c d) z b =
+        let a = accepts s (Withdraw c d) z in
+        ap₂ (tells Either) (outs-still false c d a) (eithers-still false c d a) ∙ sound .obeys c (a .low) b
+
+    class-after : (k : Call) → numberOn mostMarks s k ≡ 0 → let u = movedSheet (moveOf s k) s in ClassSound (s .marks) (s .profile) (u .outside) (u .either)
+    class-after k z = record {
+      counts = counts-after (sound .counts) k z;
+      profile = sound .profile;
+      obeys = each-own (moveOf s k) (accepts s k z) (λ (c x y h : ℕ). breaks (s .marks) (s .profile) c ≡ true → tells Either x y ≡ true) (obeys-here k z) (sound .obeys);
+    }
 
   module _ (sound : TimesSound (s .marks) (s .outside) (s .either) (s .held)) where
     most-paid : (more : Bool) (c d : ℕ) → AmountPassed mostMarks more s c d → Accepted s (amountMove more c d)
@@ -157,13 +181,14 @@ module _ (s : Sheet) (long : Long entries s) where
         record {
           sums = sums-moved v a held-seconds (sound .sums);
           most = most-now k z;
-          apart = each-own v a (λ (x y h : ℕ). tells Either x y ≡ true → h ≡ 0) (apart-here k z) (sound .apart);
+          apart = each-own v a (λ (c x y h : ℕ). tells Either x y ≡ true → h ≡ 0) (apart-here k z) (sound .apart);
         }
 
   -- SOUNDNESS IS KEPT, of each table
-  pub class-kept : (k : Call) → ClassSound (s .marks) (s .outside) (s .either) → let u = didOf mostMarks s k .sheet in ClassSound (u .marks) (u .outside) (u .either)
+  pub class-kept : (k : Call) → ClassSound (s .marks) (s .profile) (s .outside) (s .either)
+      → let u = didOf mostMarks s k .sheet in ClassSound (u .marks) (u .profile) (u .outside) (u .either)
   class-kept k sound =
-      by-answer (λ (u : Sheet). ClassSound (u .marks) (u .outside) (u .either)) _ s (movedSheet (moveOf s k) s) sound (λ z. class-after sound k z)
+      by-answer (λ (u : Sheet). ClassSound (u .marks) (u .profile) (u .outside) (u .either)) _ s (movedSheet (moveOf s k) s) sound (λ z. class-after sound k z)
 
   pub times-kept : (k : Call) → TimesSound (s .marks) (s .outside) (s .either) (s .held)
       → let u = didOf mostMarks s k .sheet in TimesSound (u .marks) (u .outside) (u .either) (u .held)
@@ -180,18 +205,29 @@ class-of-ready r = record { marks = r .marks; class = r .class }
 
 -- an opened sheet is fit for every call, and so is the one that a refused opening gives
 
-opened-ready : (m : ℕ) → marksOk mostMarks m ≡ true → Ready mostMarks (sheetOf entries (opened m))
-opened-ready m e =
+opened-ready : (m : ℕ) (p : Profile) → marksOk mostMarks m ≡ true → profileOk m p ≡ true → Ready mostMarks (sheetOf entries (openedUnder m p))
+opened-ready m p e ok =
     let l = boxes-fit m e in
+    let r = openedUnder m p in
     record {
       marks = e;
-      class = class-sound entries m l (λ c. Out);
-      times = times-sound entries m l (λ c. Out) (λ c. 0) (omega (arith, sum-zero (2 ^ m))) (λ c w. refl);
+      class = class-sound entries r l ok (opened-obeys m p);
+      times = times-sound entries m l (r .standing) (λ c. 0) (omega (arith, sum-zero (2 ^ m))) (λ c w. refl);
     }
 
 pub open-ready : (m : ℕ) → Ready mostMarks (openOf mostMarks entries m .sheet)
 unfolding marksOk
 open-ready m =
     if (marksOk mostMarks m)
-    (λ e. subst (λ (a : Answer). Ready mostMarks (a .sheet)) (open-done mostMarks entries m e) (opened-ready m e))
-    (λ e. subst (λ (a : Answer). Ready mostMarks (a .sheet)) (open-refused mostMarks entries m e) (opened-ready 1 refl))
+    (λ e. subst (λ (a : Answer). Ready mostMarks (a .sheet)) (open-done mostMarks entries m e) (opened-ready m None e refl))
+    (λ e. subst (λ (a : Answer). Ready mostMarks (a .sheet)) (open-refused mostMarks entries m e) (opened-ready 1 None refl refl))
+
+pub open-under-ready : (m : ℕ) (groups : List ℕ) → Ready mostMarks (openUnderOf mostMarks entries m groups .sheet)
+unfolding marksOk
+open-under-ready m groups =
+    if (marksOk mostMarks m)
+    (λ e. if (namesOk m groups)
+    (λ ok. subst (λ (a : Answer). Ready mostMarks (a .sheet)) (open-under-done mostMarks entries m groups e ok)
+    (opened-ready m (profileOf groups) e (and-right (countOk (length groups)) _ ok)))
+    (λ no. subst (λ (a : Answer). Ready mostMarks (a .sheet)) (open-under-faulty mostMarks entries m groups e no) (opened-ready 1 None refl refl)))
+    (λ e. subst (λ (a : Answer). Ready mostMarks (a .sheet)) (open-under-refused mostMarks entries m groups e) (opened-ready 1 None refl refl))

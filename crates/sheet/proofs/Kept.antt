@@ -4,6 +4,7 @@ use mathlib.Core.Path.{_≡_, refl, sym, _∙_, ap, ap₂}
 use mathlib.Core.Bool.{Bool, true, false}
 use native.Mathlib.Nat.{one-le-pow}
 use native.Mathlib.Omega.{arith}
+use borrow.Author.Tests.{lt-ltb}
 use Rattle.boxes.specs.Boxes.{allFree}
 use Rattle.boxes.specs.Sums.{sum}
 use Rattle.boxes.proofs.Boxes.{sumIn-all}
@@ -11,8 +12,10 @@ use Rattle.ground.proofs.Cases.{clash}
 use Rattle.tables.specs.Tables.{entry, own, afresh}
 use Rattle.tables.proofs.Entries.{afresh-own, afresh-sums, afresh-entry}
 use Rattle.sheet.specs.Limits.{mostHeld}
-use Rattle.sheet.specs.Record.{is, isEither, outs, eithers}
-use Rattle.sheet.specs.Sound.{tells, toldBy, ClassSound, TimesSound}
+use Rattle.profiles.specs.Profiles.{profileOk}
+use Rattle.profiles.specs.declared.Profile.{Profile}
+use Rattle.sheet.specs.Record.{is, isEither, outs, eithers, Record, Obeys, openedUnder, quantity, outside-counts, either-counts, sheetOf}
+use Rattle.sheet.specs.Sound.{tells, toldBy, CountsSound, ClassSound, TimesSound}
 use Rattle.sheet.specs.declared.Standing.{Standing}
 use Rattle.sheet.specs.declared.Standing.the-variants.{In, Out, Either}
 
@@ -50,8 +53,8 @@ module _ (n m : ℕ) (fits : 3 ^ m ≤ n) where
     abbrev either : ℕ → ℕ
     either c = eithers (standing c)
 
-    pub class-sound : ClassSound m (afresh n m outside) (afresh n m either)
-    class-sound = record {
+    pub counts-sound : CountsSound m (afresh n m outside) (afresh n m either)
+    counts-sound = record {
       outsides = afresh-sums n m outside fits;
       eithers = afresh-sums n m either fits;
       tells = λ c l. omega (arith, afresh-own n m outside fits c l, afresh-own n m either fits c l, adds-one (standing c));
@@ -74,3 +77,17 @@ module _ (n m : ℕ) (fits : 3 ^ m ≤ n) where
     apart = λ c lc e. afresh-own n m times fits c lc
         ∙ apart c (sym (tells-either (standing c)) ∙ sym (ap₂ (tells Either) (afresh-own n m (outside standing) fits c lc) (afresh-own n m (either standing) fits c lc)) ∙ e);
   }
+
+-- the class table of a record that obeys its profile
+pub class-sound : (n : ℕ) (r : Record) → 3 ^ r .marks ≤ n → profileOk (r .marks) (r .profile) ≡ true → Obeys r
+    → ClassSound (r .marks) (r .profile) (sheetOf n r .outside) (sheetOf n r .either)
+class-sound n r fits ok obeys = record {
+  counts = counts-sound n (r .marks) fits (r .standing);
+  profile = ok;
+  obeys = λ c l b. ap₂ (tells Either) (afresh-own n (r .marks) (quantity outside-counts r) fits c l) (afresh-own n (r .marks) (quantity either-counts r) fits c l)
+      ∙ tells-either (r .standing c) ∙ obeys c l b;
+}
+
+-- an opened sheet's record obeys its profile
+pub opened-obeys : (m : ℕ) (p : Profile) → Obeys (openedUnder m p)
+opened-obeys m p c l b = rw (b, lt-ltb c (2 ^ m) l)

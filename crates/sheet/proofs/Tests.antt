@@ -14,6 +14,7 @@ use Rattle.boxes.proofs.Choices.{freeMarks, freeMarks-lt, freeCount-ones}
 use Rattle.tables.specs.declared.Shift.{Shift}
 use Rattle.tables.specs.declared.Shift.the-variants.{Stays, Up, Down}
 use Rattle.tables.specs.Tables.{entry, fitsShifted, touched}
+use Rattle.profiles.specs.Profiles.{settles}
 use Rattle.tables.specs.Parts.{Bears, AllBear, fitsMoved}
 use Rattle.tables.proofs.Touched.{touched-at}
 use Rattle.sheet.specs.Limits.{marksOk, amountOk, mostHeld, mostMarks, entries}
@@ -64,33 +65,39 @@ module _ (most : ℕ) (to : Standing) (s : Sheet) (c : ℕ) where
     change-2 l = rw (marks, le-leb (2 ^ s .marks) c l)
 
     module _ (low : c < 2 ^ s .marks) where
-      pub change-own : 1 < ownIn outside-counts s c + ownIn either-counts s c → changeNo most to s c ≡ 7
+      pub change-settled : settles (s .marks) (s .profile) c ≡ true → changeNo most to s c ≡ 12
       unfolding changeNo
-      change-own l = rw (marks, lt-leb (2 ^ s .marks) c low, lt-ltb 1 (ownIn outside-counts s c + ownIn either-counts s c) l)
+      change-settled e = rw (marks, lt-leb (2 ^ s .marks) c low, e)
 
-      module _ (one : ownIn outside-counts s c + ownIn either-counts s c ≤ 1) where
-        pub change-3 : tells to (ownIn outside-counts s c) (ownIn either-counts s c) ≡ true → changeNo most to s c ≡ 3
+      module _ (free : settles (s .marks) (s .profile) c ≡ false) where
+        pub change-own : 1 < ownIn outside-counts s c + ownIn either-counts s c → changeNo most to s c ≡ 7
         unfolding changeNo
-        change-3 e = rw (marks, lt-leb (2 ^ s .marks) c low, le-ltb 1 (ownIn outside-counts s c + ownIn either-counts s c) one, e)
+        change-own l = rw (marks, lt-leb (2 ^ s .marks) c low, free, lt-ltb 1 (ownIn outside-counts s c + ownIn either-counts s c) l)
 
-        module _ (other : tells to (ownIn outside-counts s c) (ownIn either-counts s c) ≡ false) where
-          pub change-12 : (isEither to && ltb 0 (ownIn held-seconds s c)) ≡ true → changeNo most to s c ≡ 12
+        module _ (one : ownIn outside-counts s c + ownIn either-counts s c ≤ 1) where
+          pub change-3 : tells to (ownIn outside-counts s c) (ownIn either-counts s c) ≡ true → changeNo most to s c ≡ 3
           unfolding changeNo
-          change-12 e = rw (marks, lt-leb (2 ^ s .marks) c low, le-ltb 1 (ownIn outside-counts s c + ownIn either-counts s c) one, other, e)
+          change-3 e = rw (marks, lt-leb (2 ^ s .marks) c low, free, le-ltb 1 (ownIn outside-counts s c + ownIn either-counts s c) one, e)
 
-          module _ (apart : (isEither to && ltb 0 (ownIn held-seconds s c)) ≡ false) where
-            pub change-count : countsFit to s c ≡ false → changeNo most to s c ≡ 7
+          module _ (other : tells to (ownIn outside-counts s c) (ownIn either-counts s c) ≡ false) where
+            pub change-12 : (isEither to && ltb 0 (ownIn held-seconds s c)) ≡ true → changeNo most to s c ≡ 12
             unfolding changeNo
-            change-count e = rw (marks, lt-leb (2 ^ s .marks) c low, le-ltb 1 (ownIn outside-counts s c + ownIn either-counts s c) one, other, apart, e)
+            change-12 e = rw (marks, lt-leb (2 ^ s .marks) c low, free, le-ltb 1 (ownIn outside-counts s c + ownIn either-counts s c) one, other, e)
 
-            pub change-0 : countsFit to s c ≡ true → changeNo most to s c ≡ 0
-            unfolding changeNo
-            change-0 e = rw (marks, lt-leb (2 ^ s .marks) c low, le-ltb 1 (ownIn outside-counts s c + ownIn either-counts s c) one, other, apart, e)
+            module _ (apart : (isEither to && ltb 0 (ownIn held-seconds s c)) ≡ false) where
+              pub change-count : countsFit to s c ≡ false → changeNo most to s c ≡ 7
+              unfolding changeNo
+              change-count e = rw (marks, lt-leb (2 ^ s .marks) c low, free, le-ltb 1 (ownIn outside-counts s c + ownIn either-counts s c) one, other, apart, e)
+
+              pub change-0 : countsFit to s c ≡ true → changeNo most to s c ≡ 0
+              unfolding changeNo
+              change-0 e = rw (marks, lt-leb (2 ^ s .marks) c low, free, le-ltb 1 (ownIn outside-counts s c + ownIn either-counts s c) one, other, apart, e)
 
 -- an accepted class change
 pub record ChangePassed (most : ℕ) (to : Standing) (s : Sheet) (c : ℕ) : Type 0 where
   pub marks : marksOk most (s .marks) ≡ true
   pub low : c < 2 ^ s .marks
+  pub free : settles (s .marks) (s .profile) c ≡ false
   pub one : ownIn outside-counts s c + ownIn either-counts s c ≤ 1
   pub other : tells to (ownIn outside-counts s c) (ownIn either-counts s c) ≡ false
   pub apart : (isEither to && ltb 0 (ownIn held-seconds s c)) ≡ false
@@ -100,15 +107,17 @@ pub changes : (most : ℕ) (to : Standing) (s : Sheet) (c : ℕ) → changeNo mo
 changes most to s c z =
     if (marksOk most (s .marks))
     (λ marks. below-or c (2 ^ s .marks)
-    (λ low. below-or 1 (ownIn outside-counts s c + ownIn either-counts s c)
-    (λ l. absurd (omega (arith, change-own most to s c marks low l)))
+    (λ low. if (settles (s .marks) (s .profile) c)
+    (λ e. absurd (omega (arith, change-settled most to s c marks low e)))
+    (λ free. below-or 1 (ownIn outside-counts s c + ownIn either-counts s c)
+    (λ l. absurd (omega (arith, change-own most to s c marks low free l)))
     (λ one. if (tells to (ownIn outside-counts s c) (ownIn either-counts s c))
-    (λ e. absurd (omega (arith, change-3 most to s c marks low one e)))
+    (λ e. absurd (omega (arith, change-3 most to s c marks low free one e)))
     (λ other. if (isEither to && ltb 0 (ownIn held-seconds s c))
-    (λ e. absurd (omega (arith, change-12 most to s c marks low one other e)))
+    (λ e. absurd (omega (arith, change-12 most to s c marks low free one other e)))
     (λ apart. if (countsFit to s c)
-    (λ fits. record { marks = marks; low = low; one = one; other = other; apart = apart; fits = fits })
-    (λ e. absurd (omega (arith, change-count most to s c marks low one other apart e)))))))
+    (λ fits. record { marks = marks; low = low; free = free; one = one; other = other; apart = apart; fits = fits })
+    (λ e. absurd (omega (arith, change-count most to s c marks low free one other apart e))))))))
     (λ l. absurd (omega (arith, change-2 most to s c marks l))))
     (λ e. absurd (omega (arith, change-7 most to s c e)))
 

@@ -8,7 +8,7 @@ use lib.Dec.{eqb, ltb}
 use borrow.Author.Tests.{ltb-true, eqb-true, eqb-false, not-true}
 use Rattle.ground.proofs.Cases.{and-left, and-right}
 use Rattle.sheet.specs.Record.{Record, isIn, isOut, isEither, inClass, notOut, outside-counts, either-counts}
-use Rattle.sheet.specs.Sound.{ownIn, ClassSound, TimesSound, recordOf}
+use Rattle.sheet.specs.Sound.{ownIn, CountsSound, TimesSound, recordOf}
 use Rattle.sheet.specs.declared.Sheet.{Sheet}
 use Rattle.sheet.specs.declared.Standing.{Standing}
 use Rattle.sheet.specs.declared.Standing.the-variants.{In, Out, Either}
@@ -69,7 +69,7 @@ module _ (s : Sheet) (c : ℕ) where
   pub in-low : inClass (recordOf s) c ≡ true → c < 2 ^ s .marks
   in-low e = not-out-low (in-not-out (recordOf s) c e)
 
-  pub either-nothing : ClassSound (s .marks) (s .outside) (s .either) → TimesSound (s .marks) (s .outside) (s .either) (s .held)
+  pub either-nothing : CountsSound (s .marks) (s .outside) (s .either) → TimesSound (s .marks) (s .outside) (s .either) (s .held)
       → isEither (recordOf s .standing c) ≡ true → recordOf s .times c ≡ 0
   either-nothing class times e =
       let e : (low && (noOut && not noEither)) ≡ true = sym (by-either low noOut noEither) ∙ e in

@@ -8,8 +8,9 @@ use Rattle.boxes.specs.Boxes.{freeCount}
 use Rattle.tables.specs.declared.Shift.{Shift}
 use Rattle.tables.specs.declared.Shift.the-variants.{Stays, Up, Down}
 use Rattle.tables.specs.Tables.{entry, moved, fitsShifted, touched}
+use Rattle.profiles.specs.Profiles.{settles, profileOf, namesOk}
 use Rattle.sheet.specs.Limits.{marksOk, amountOk, mostHeld}
-use Rattle.sheet.specs.Record.{isEither, outs, eithers, Table, outside-counts, either-counts, held-seconds, sheetWith, sheetOf, opened, inClass}
+use Rattle.sheet.specs.Record.{isEither, outs, eithers, Table, outside-counts, either-counts, held-seconds, sheetWith, sheetOf, openedUnder, opened, inClass}
 use Rattle.sheet.specs.Sound.{ownIn, tells, ClassReady, recordOf, sizeOf}
 use Rattle.sheet.specs.declared.Call.{Call}
 use Rattle.sheet.specs.declared.Call.the-variants.{Change, Receive, Withdraw}
@@ -23,6 +24,13 @@ use Rattle.sheet.specs.declared.Value.{Value}
 -- opening: 1 if marks are not 1 to the most; a refused opening gives the sheet of an opened one-mark class
 abbrev pub openOf : ℕ → ℕ → ℕ → Answer
 openOf most n m = cond (marksOk most m) (record { number = 0; sheet = sheetOf n (opened m) }) (record { number = 1; sheet = sheetOf n (opened 1) })
+
+-- opening under a profile of these groups: 1 as before, then 13 if it is faulty
+abbrev pub openUnderOf : ℕ → ℕ → ℕ → List ℕ → Answer
+openUnderOf most n m groups =
+    cond (marksOk most m)
+    (cond (namesOk m groups) (record { number = 0; sheet = sheetOf n (openedUnder m (profileOf groups)) }) (record { number = 13; sheet = sheetOf n (opened 1) }))
+    (record { number = 1; sheet = sheetOf n (opened 1) })
 
 -- A call is a move at one combination: in the boxes that contain it each table stays, or has some more, or some less.
 
@@ -53,7 +61,7 @@ shiftIn held-seconds v = v .held
 
 abbrev pub movedSheet : Move → Sheet → Sheet
 movedSheet v s =
-    sheetWith (s .marks) (moved (s .marks) (v .at) (v .outside) (s .outside)) (moved (s .marks) (v .at) (v .either) (s .either))
+    sheetWith (s .marks) (s .profile) (moved (s .marks) (v .at) (v .outside) (s .outside)) (moved (s .marks) (v .at) (v .either) (s .either))
     (moved (s .marks) (v .at) (v .held) (s .held))
 
 -- a class change
@@ -68,14 +76,16 @@ countsFit to s c =
     touched (s .marks) c (fitsCount (s .marks) (between (ownIn outside-counts s c) (outs to)) (s .outside))
     && touched (s .marks) c (fitsCount (s .marks) (between (ownIn either-counts s c) (eithers to)) (s .either))
 
+-- the profile is asked before the own numbers
 unfoldable pub changeNo : ℕ → Standing → Sheet → ℕ → ℕ
 changeNo most to s c =
     cond (not (marksOk most (s .marks))) 7
     (cond (leb (2 ^ s .marks) c) 2
+    (cond (settles (s .marks) (s .profile) c) 12
     (cond (ltb 1 (ownIn outside-counts s c + ownIn either-counts s c)) 7
     (cond (tells to (ownIn outside-counts s c) (ownIn either-counts s c)) 3
     (cond (isEither to && ltb 0 (ownIn held-seconds s c)) 12
-    (cond (not (countsFit to s c)) 7 0)))))
+    (cond (not (countsFit to s c)) 7 0))))))
 
 -- a receipt or a withdrawal
 

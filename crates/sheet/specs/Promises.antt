@@ -18,6 +18,7 @@ Long n s = (t : Table) → length (kept t s) ≡ n
 -- two sheets that agree but for the entries at 3^m and above
 pub record Agree (s u : Sheet) : Type 0 where
   pub marks : s .marks ≡ u .marks
+  pub profile : s .profile ≡ u .profile
   pub tables : (t : Table) (b : ℕ) → b < 3 ^ s .marks → entry (kept t s) b ≡ entry (kept t u) b
 
 -- the same answer, and sheets that agree so
@@ -39,6 +40,7 @@ SomeShift (Down d) = 0 < d
 -- shifts one
 pub record Altered (v : Move) (s u : Sheet) : Type 0 where
   pub marks : u .marks ≡ s .marks
+  pub profile : u .profile ≡ s .profile
   pub tables : (t : Table) → Shifted (s .marks) (v .at) (shiftIn t v) (kept t s) (kept t u)
   pub some : (t : Table) → SomeShift (shiftIn t v)
   pub moves : (t : Table) × (shiftIn t v ≡ Stays → ⊥)

@@ -1,12 +1,14 @@
-// The sheet: marks; for each box an outside count, an either count and held seconds; and the calls that open and change it. Every call takes any numbers
-// and any sheet, spoiled ones included, and answers by a number of 01's table.
+// The sheet: marks and carrier profile; for each box an outside count, an either count and held seconds; and the calls that open and change it. Every
+// call takes any numbers and any sheet, spoiled ones included, and answers by a number of 01's table.
 ghost use mathlib.Core.Path.{_≡_};
 ghost use Prim.Native.Nat.{_≤_};
+ghost use mathlib.Core.Bool.{cond};
 ghost use Rattle.ground.specs.Decides.{Decides};
 ghost use Rattle.tables.specs.Tables.{entry, afresh};
+ghost use Rattle.profiles.specs.Profiles.{breaks};
 ghost use Rattle.sheet.specs.Limits.{mostMarks, entries, mostHeld, mostAmount};
-ghost use Rattle.sheet.specs.Record.{sheetFrom, sheetOf, opened, inClass};
-ghost use Rattle.sheet.specs.Calls.{openOf, movedSheet, didOf, ClassSize};
+ghost use Rattle.sheet.specs.Record.{sheetFrom, sheetOf, openedUnder, opened, inClass};
+ghost use Rattle.sheet.specs.Calls.{openOf, openUnderOf, movedSheet, didOf, ClassSize};
 ghost use Rattle.sheet.specs.Parts.{Accepted, Addable};
 ghost use Rattle.sheet.specs.Sound.{ClassReady, Ready, recordOf, sizeOf};
 ghost use Rattle.sheet.specs.declared.Call.the-variants.{Change, Receive, Withdraw};
@@ -18,11 +20,13 @@ mod soundness;
 
 use boxes;
 pub use numbers::marks_ok;
+use profiles::Profile;
 use tables;
 use tables::Shift;
 
 pub struct Sheet {
     pub marks: usize,
+    pub profile: Profile,
     pub outside: [u32; Sheet::ENTRIES],
     pub either: [u32; Sheet::ENTRIES],
     pub held: [u32; Sheet::ENTRIES],
@@ -72,6 +76,17 @@ fn table(m: usize, own: &[u32]) -> [u32; Sheet::ENTRIES]
     t
 }
 
+// How a combination stands when a sheet is opened.
+fn opened_as(m: usize, profile: Profile, c: usize) -> Standing
+    ensures { λ r. ⌜ r ≡ cond (breaks m profile c) Either Out ⌝ }
+{
+    if profile.breaks(m, c) {
+        Standing::Either
+    } else {
+        Standing::Out
+    }
+}
+
 impl Sheet {
     pub const MOST_MARKS: usize = 5;
 
@@ -90,15 +105,16 @@ impl Sheet {
     {}
 
     // The sheet worked out afresh from what each combination adds to the outside counts and to the either counts, and the seconds that it holds.
-    pub fn afresh(m: usize, outs: &[u32], eithers: &[u32], times: &[u32]) -> Sheet
+    pub fn afresh(m: usize, profile: Profile, outs: &[u32], eithers: &[u32], times: &[u32]) -> Sheet
         requires { ⌜ (m ≤ mostMarks) × Addable m (now outs) × Addable m (now eithers) × Addable m (now times) ⌝ }
-        ensures { λ r. ⌜ r ≡ sheetFrom entries m (entry (now (outs .entry))) (entry (now (eithers .entry))) (entry (now (times .entry))) ⌝ }
+        ensures { λ r. ⌜ r ≡ sheetFrom entries m profile (entry (now (outs .entry))) (entry (now (eithers .entry))) (entry (now (times .entry))) ⌝ }
     {
         let outside = table(m, outs);
         let either = table(m, eithers);
         let held = table(m, times);
         Sheet {
             marks: m,
+            profile,
             outside,
             either,
             held,
@@ -110,9 +126,7 @@ impl Sheet {
         requires { ⌜ m ≤ mostMarks ⌝ }
         ensures { λ r. ⌜ r ≡ sheetOf entries (opened m) ⌝ }
     {
-        let ones = [1u32; 32];
-        let none = [0u32; 32];
-        Sheet::afresh(m, &ones, &none, &none)
+        Sheet::opened_under(m, Profile::None)
     }
 
     // A sheet of so many marks, with every combination out and nothing held.
@@ -128,6 +142,45 @@ impl Sheet {
         Answer {
             number: 1,
             sheet: Sheet::opened(1),
+        }
+    }
+
+    // The sheet of a class of m marks that is opened under a profile.
+    fn opened_under(m: usize, profile: Profile) -> Sheet
+        requires { ⌜ m ≤ mostMarks ⌝ }
+        ensures { λ r. ⌜ r ≡ sheetOf entries (openedUnder m profile) ⌝ }
+    {
+        let n = boxes::power2(m);
+        let mut outs = [0u32; 32];
+        let mut eithers = [0u32; 32];
+        for c in 0..n {
+            let to = opened_as(m, profile, c);
+            outs[c] = moves::outs(to);
+            eithers[c] = moves::eithers(to);
+        }
+        let none = [0u32; 32];
+        Sheet::afresh(m, profile, &outs, &eithers, &none)
+    }
+
+    // A sheet of so many marks under a profile of these groups: the combinations that break it are either, the others out.
+    pub fn open_under(marks: usize, groups: &[u8]) -> Answer
+        ensures { λ r. ⌜ r ≡ openUnderOf mostMarks entries marks (now (groups .entry)) ⌝ }
+    {
+        if !numbers::marks_ok(marks) {
+            return Answer {
+                number: 1,
+                sheet: Sheet::opened(1),
+            };
+        }
+        if !profiles::names_ok(marks, groups) {
+            return Answer {
+                number: 13,
+                sheet: Sheet::opened(1),
+            };
+        }
+        Answer {
+            number: 0,
+            sheet: Sheet::opened_under(marks, Profile::of(groups)),
         }
     }
 
@@ -147,8 +200,10 @@ impl Sheet {
         let mut held = self.held;
         let seconds = v.held;
         tables::move_at(m, c, seconds, &mut held);
+        let profile = self.profile;
         Sheet {
             marks: m,
+            profile,
             outside,
             either,
             held,
@@ -163,7 +218,8 @@ impl Sheet {
         let outside = self.outside;
         let either = self.either;
         let held = self.held;
-        let number = numbers::of_call(m, &outside, &either, &held, call);
+        let profile = self.profile;
+        let number = numbers::of_call(m, profile, &outside, &either, &held, call);
         if number != 0 {
             return Answer {
                 number,
@@ -218,7 +274,8 @@ impl Sheet {
         let m = self.marks;
         let outside = self.outside;
         let either = self.either;
-        numbers::marks_ok(m) && soundness::class_sound(m, &outside, &either)
+        let profile = self.profile;
+        numbers::marks_ok(m) && soundness::class_sound(m, profile, &outside, &either)
     }
 
     // Whether a call that reads the class and the times can be answered.

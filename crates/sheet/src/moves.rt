@@ -3,6 +3,7 @@ ghost use mathlib.Core.Path.{_≡_};
 ghost use Prim.Native.Nat.{ℕ, _<_, _≤_, _^_};
 ghost use mathlib.Core.List.{List};
 ghost use lib.ListN.{length};
+ghost use Rattle.profiles.specs.declared.Profile.{Profile};
 ghost use Rattle.sheet.specs.Limits.{mostMarks, entries};
 ghost use Rattle.sheet.specs.Record.{outs, eithers, sheetWith};
 ghost use Rattle.sheet.specs.Calls.{between, amountShift, changeMove, amountMove, moveOf};
@@ -87,7 +88,7 @@ fn amount_move(more: bool, c: usize, d: u64) -> Move
 pub fn of_call(m: usize, outside: &[u32], either: &[u32], call: Call) -> Move
     requires { ⌜ (m ≤ mostMarks) × (entries ≤ length (now outside)) × (entries ≤ length (now either)) ⌝ }
     requires { ⌜ SmallAmount call ⌝ }
-    ensures { λ r. ⌜ ((held : List ℕ) → r ≡ moveOf (sheetWith m (now (outside .entry)) (now (either .entry)) held) call) ⌝ }
+    ensures { λ r. ⌜ ((p : Profile) (held : List ℕ) → r ≡ moveOf (sheetWith m p (now (outside .entry)) (now (either .entry)) held) call) ⌝ }
 {
     match call {
         Call::Change(to, c) => {

@@ -5,6 +5,7 @@ ghost use lib.Dec.{ltb};
 ghost use mathlib.Core.List.{List};
 ghost use Prim.Native.Nat.{ℕ, _≤_, _<_, _^_};
 ghost use lib.ListN.{length};
+ghost use Rattle.profiles.specs.declared.Profile.{Profile};
 ghost use Rattle.sheet.specs.Limits.{mostMarks, entries, mostHeld, marksOk, amountOk};
 ghost use Rattle.sheet.specs.Parts.{mostKept};
 ghost use Rattle.sheet.specs.Sound.{tells};
@@ -15,6 +16,7 @@ use crate::Call;
 use crate::Sheet;
 use crate::Standing;
 use crate::moves;
+use profiles::Profile;
 
 // Whether a sheet may have m marks.
 pub fn marks_ok(m: usize) -> bool
@@ -58,7 +60,7 @@ fn to_either(more: bool, o: u32, e: u32) -> bool
 // Whether both counts of each touched box fit after a change to a standing, from own counts o and e.
 fn counts_fit(m: usize, c: usize, to: Standing, outside: &[u32], either: &[u32]) -> bool
     requires { ⌜ (m ≤ mostMarks) × (c < 2 ^ m) × (entries ≤ length (now outside)) × (entries ≤ length (now either)) ⌝ }
-    ensures { λ r. ⌜ ((held : List ℕ) → r ≡ countsFit to (sheetWith m (now (outside .entry)) (now (either .entry)) held) c) ⌝ }
+    ensures { λ r. ⌜ ((p : Profile) (held : List ℕ) → r ≡ countsFit to (sheetWith m p (now (outside .entry)) (now (either .entry)) held) c) ⌝ }
 {
     let b = boxes::single(m, c);
     let out = moves::between(outside[b], moves::outs(to));
@@ -69,6 +71,7 @@ fn counts_fit(m: usize, c: usize, to: Standing, outside: &[u32], either: &[u32])
 // The number of a class change.
 fn change_number(
     m: usize,
+    profile: Profile,
     c: usize,
     outside: &[u32],
     either: &[u32],
@@ -76,13 +79,16 @@ fn change_number(
     to: Standing,
 ) -> u64
     requires { ⌜ (entries ≤ length (now outside)) × (entries ≤ length (now either)) × (entries ≤ length (now held)) ⌝ }
-    ensures { λ r. ⌜ r ≡ changeNo mostMarks to (sheetWith m (now (outside .entry)) (now (either .entry)) (now (held .entry))) c ⌝ }
+    ensures { λ r. ⌜ r ≡ changeNo mostMarks to (sheetWith m profile (now (outside .entry)) (now (either .entry)) (now (held .entry))) c ⌝ }
 {
     if !marks_ok(m) {
         return 7;
     }
     if boxes::power2(m) <= c {
         return 2;
+    }
+    if profile.settles(m, c) {
+        return 12;
     }
     let b = boxes::single(m, c);
     let o = outside[b];
@@ -123,7 +129,7 @@ fn amount_number(
     more: bool,
 ) -> u64
     requires { ⌜ (entries ≤ length (now outside)) × (entries ≤ length (now either)) × (entries ≤ length (now held)) ⌝ }
-    ensures { λ r. ⌜ r ≡ amountNo mostMarks more (sheetWith m (now (outside .entry)) (now (either .entry)) (now (held .entry))) c d ⌝ }
+    ensures { λ r. ⌜ ((p : Profile) → r ≡ amountNo mostMarks more (sheetWith m p (now (outside .entry)) (now (either .entry)) (now (held .entry))) c d) ⌝ }
 {
     if !marks_ok(m) {
         return 7;
@@ -155,12 +161,19 @@ fn amount_number(
 }
 
 // The number of a call on a sheet of m marks with these tables.
-pub fn of_call(m: usize, outside: &[u32], either: &[u32], held: &[u32], call: Call) -> u64
+pub fn of_call(
+    m: usize,
+    profile: Profile,
+    outside: &[u32],
+    either: &[u32],
+    held: &[u32],
+    call: Call,
+) -> u64
     requires { ⌜ (entries ≤ length (now outside)) × (entries ≤ length (now either)) × (entries ≤ length (now held)) ⌝ }
-    ensures { λ r. ⌜ r ≡ numberOn mostMarks (sheetWith m (now (outside .entry)) (now (either .entry)) (now (held .entry))) call ⌝ }
+    ensures { λ r. ⌜ r ≡ numberOn mostMarks (sheetWith m profile (now (outside .entry)) (now (either .entry)) (now (held .entry))) call ⌝ }
 {
     match call {
-        Call::Change(to, c) => change_number(m, c, outside, either, held, to),
+        Call::Change(to, c) => change_number(m, profile, c, outside, either, held, to),
         Call::Receive(c, d) => amount_number(m, c, outside, either, held, d, true),
         Call::Withdraw(c, d) => amount_number(m, c, outside, either, held, d, false),
     }

@@ -7,7 +7,7 @@ use borrow.Author.Needs.{needs}
 use Rattle.boxes.specs.Sums.{only}
 use Rattle.sets.specs.Sets.{has}
 use Rattle.sets.proofs.Bits.{has-out}
-use Rattle.sets.proofs.Filled.{Filled, filled-none, filled-more}
+use Rattle.ground.proofs.Filled.{Filled, filled-none, filled-more}
 use Rattle.sets.proofs.outs_of.Statement.{statement}
 use Rattle.sets.proofs.outs_of.Tie as tie
 

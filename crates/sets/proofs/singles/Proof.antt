@@ -7,7 +7,7 @@ use borrow.Author.Needs.{needs}
 use Rattle.boxes.specs.Boxes.{single}
 use Rattle.boxes.proofs.Choices.{through-wide}
 use Rattle.sets.specs.Sets.{setMarks}
-use Rattle.sets.proofs.Filled.{Filled, filled-none, filled-more}
+use Rattle.ground.proofs.Filled.{Filled, filled-none, filled-more}
 use Rattle.sets.proofs.singles.Statement.{statement}
 use Rattle.sets.proofs.singles.Tie as tie
 

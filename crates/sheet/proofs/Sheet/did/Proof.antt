@@ -44,13 +44,13 @@ moved-requires : tie.Need-moved-requires
 moved-requires c κs =
     let e = c .before .before .before in
     let a = start (e .before) .args in
-    subst (Accepted (a .self)) (sym (c .of-call2 .ensures (a .self .held))) (accepts (a .self) (a .call) (passed e))
+    subst (Accepted (a .self)) (sym (c .of-call2 .ensures (a .self .profile) (a .self .held))) (accepts (a .self) (a .call) (passed e))
 
 returns-2 : tie.Need-returns-2
 returns-2 c =
     let e = c .before .before .before .before in
     let a = start (e .before) .args in
-    ap (λ (s : Sheet). record { number = 0; sheet = s }) (c .moved .ensures ∙ ap (λ (v : Move). movedSheet v (a .self)) (c .before .of-call2 .ensures (a .self .held)))
+    ap (λ (s : Sheet). record { number = 0; sheet = s }) (c .moved .ensures ∙ ap (λ (v : Move). movedSheet v (a .self)) (c .before .of-call2 .ensures (a .self .profile) (a .self .held)))
     ∙ done _ (a .self) (movedSheet (moveOf (a .self) (a .call)) (a .self)) (passed e)
 
 pub did-spec : {M : Type 1} → statement M

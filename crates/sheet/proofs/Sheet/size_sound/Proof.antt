@@ -20,7 +20,7 @@ counted : (c : tie.After-power2)
 counted c =
     let s = c .before .before .args .t1 in
     let e = c .before .power3 .ensures .0 in
-    omega (arith, ap (λ (n : ℕ). entry (s .outside) (n - 1)) e, ap (λ (n : ℕ). entry (s .either) (n - 1)) e, c .power2 .ensures .0, size-counted s (c .before .before .pre .class))
+    omega (arith, ap (λ (n : ℕ). entry (s .outside) (n - 1)) e, ap (λ (n : ℕ). entry (s .either) (n - 1)) e, c .power2 .ensures .0, size-counted s (c .before .before .pre .class .counts))
 
 inside : (c : tie.After-power2) → c .before .power3 .result - 1 < entries
 inside c = omega (arith, c .before .power3 .ensures .0, boxes-fit _ (c .before .before .pre .marks), one-le-pow (c .before .before .args .t1 .marks) 3 (omega arith))

@@ -27,13 +27,13 @@ amount-move-requires-2 : tie.Need-amount-move-requires-2
 amount-move-requires-2 c κs = subst SmallAmount (c .before .call3 .given .1) (c .before .before .before .before .before .pre .1)
 
 returns : tie.Need-returns
-returns c = λ held. rw (c .before .before .before .before .before .call .given .1) (cc)
+returns c = λ p held. rw (c .before .before .before .before .before .call .given .1) (cc)
 
 returns-2 : tie.Need-returns-2
-returns-2 c = λ held. rw (c .before .before .call2 .given .1) (c .amount-move .ensures)
+returns-2 c = λ p held. rw (c .before .before .call2 .given .1) (c .amount-move .ensures)
 
 returns-3 : tie.Need-returns-3
-returns-3 c = λ held. rw (c .before .before .call3 .given .1) (c .amount-move2 .ensures)
+returns-3 c = λ p held. rw (c .before .before .call3 .given .1) (c .amount-move2 .ensures)
 
 pub of-call-spec : {M : Type 1} → statement M
 of-call-spec = tie.close (tie.spec

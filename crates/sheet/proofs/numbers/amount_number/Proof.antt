@@ -10,6 +10,7 @@ use Rattle.tables.specs.declared.Shift.{Shift}
 use Rattle.tables.specs.Tables.{entry, own, touched}
 use Rattle.tables.specs.Parts.{fitsMoved}
 use Rattle.tables.proofs.Touched.{touched-ext}
+use Rattle.profiles.specs.declared.Profile.{Profile}
 use Rattle.sheet.specs.Limits.{marksOk, amountOk, mostMarks}
 use Rattle.sheet.specs.Record.{sheetWith}
 use Rattle.sheet.specs.Sound.{tells}
@@ -20,8 +21,8 @@ use Rattle.sheet.proofs.Tests.{marks-most, boxes-fit, amount-most, amou
 use Rattle.sheet.proofs.numbers.amount_number.Statement.{statement}
 use Rattle.sheet.proofs.numbers.amount_number.Tie as tie
 
-abbrev sheetIn : tie.Start → Sheet
-sheetIn s = sheetWith (s .args .m) (s .args .outside .now) (s .args .either .now) (s .args .held .now)
+abbrev sheetIn : tie.Start → Profile → Sheet
+sheetIn s p = sheetWith (s .args .m) p (s .args .outside .now) (s .args .either .now) (s .args .held .now)
 
 abbrev start : tie.Else1 → tie.Start
 start c = c .before .before .before .before .before
@@ -63,18 +64,18 @@ judged c =
     ∙ touched-ext (a .m) (a .c) _ _ (λ b h. amount-bounds (a .m) (a .more) (a .d) (a .held .now) b (e .before .before .shared-slice-known3 .given b .fits)))
 
 returns : tie.Need-returns
-returns c = sym (amount-7 _ _ _ _ _ (sym (c .before .marks-ok .ensures) ∙ not-true _ (c .if1 .taken)))
+returns c p = sym (amount-7 _ _ _ _ _ (sym (c .before .marks-ok .ensures) ∙ not-true _ (c .if1 .taken)))
 
 power2-requires : tie.Need-power2-requires
 power2-requires c κs = omega (arith, marks-most mostMarks _ (marks c))
 
 returns-2 : tie.Need-returns-2
-returns-2 c = let e = c .before .before in sym (amount-2 _ _ (sheetIn (start e)) _ _ (marks e) (omega (arith, c .before .power2 .ensures .0)))
+returns-2 c p = let e = c .before .before in sym (amount-2 _ _ (sheetIn (start e) p) _ _ (marks e) (omega (arith, c .before .power2 .ensures .0)))
 
 returns-3 : tie.Need-returns-3
-returns-3 c =
+returns-3 c p =
     let e = c .before .before .before .before in
-    sym (amount-4 _ _ (sheetIn (start e)) _ _ (marks e) (low (c .before .before)) (sym (c .before .amount-ok .ensures) ∙ not-true _ (c .if3 .taken)))
+    sym (amount-4 _ _ (sheetIn (start e) p) _ _ (marks e) (low (c .before .before)) (sym (c .before .amount-ok .ensures) ∙ not-true _ (c .if3 .taken)))
 
 single-requires : tie.Need-single-requires
 single-requires c κs = omega (arith, marks-most mostMarks _ (marks (c .before .before .before .before)))
@@ -89,10 +90,10 @@ shared-slice-read-to-either-2 : tie.Need-shared-slice-read-to-either-2
 shared-slice-read-to-either-2 c = let r = c .before .before in omega (arith, boxes-fit _ (marks (first r)), r .single .ensures .1, start (first r) .pre .1)
 
 returns-4 : tie.Need-returns-4
-returns-4 c =
+returns-4 c p =
     let r = c .before .before .before .before in
     let e = first r in
-    sym (amount-12 _ _ (sheetIn (start e)) _ _ (marks e) (low (r .before .before .before)) (amount (r .before)) (told (c .before) ∙ c .if4 .taken))
+    sym (amount-12 _ _ (sheetIn (start e) p) _ _ (marks e) (low (r .before .before .before)) (amount (r .before)) (told (c .before) ∙ c .if4 .taken))
 
 amount-shift-requires : tie.Need-amount-shift-requires
 amount-shift-requires c κs = omega (arith, amount-most _ (amount (c .before .before .before .before .before)))
@@ -110,26 +111,26 @@ fits-at-requires c κs =
     )
 
 returns-5 : tie.Need-returns-5
-returns-5 c =
+returns-5 c p =
     let f = c .before in
     let r = single-of f in
     let o = f .before .before .before in
     let e = first r in
-    sym (amount-0 _ _ (sheetIn (start e)) _ _ (marks e) (low (r .before .before .before)) (amount (r .before)) (told (o .before) ∙ o .if4 .left) (judged f ∙ c .if5 .taken))
+    sym (amount-0 _ _ (sheetIn (start e) p) _ _ (marks e) (low (r .before .before .before)) (amount (r .before)) (told (o .before) ∙ o .if4 .left) (judged f ∙ c .if5 .taken))
 
-last : (c : tie.Else5) → let s = start (first (single-of (c .before))) in amountNo mostMarks (s .args .more) (sheetIn s) (s .args .c) (s .args .d) ≡ cond (s .args .more) 8 9
-last c =
+last : (c : tie.Else5) (p : Profile) → let s = start (first (single-of (c .before))) in amountNo mostMarks (s .args .more) (sheetIn s p) (s .args .c) (s .args .d) ≡ cond (s .args .more) 8 9
+last c p =
     let f = c .before in
     let r = single-of f in
     let o = f .before .before .before in
     let e = first r in
-    amount-last _ _ (sheetIn (start e)) _ _ (marks e) (low (r .before .before .before)) (amount (r .before)) (told (o .before) ∙ o .if4 .left) (judged f ∙ c .if5 .left)
+    amount-last _ _ (sheetIn (start e) p) _ _ (marks e) (low (r .before .before .before)) (amount (r .before)) (told (o .before) ∙ o .if4 .left) (judged f ∙ c .if5 .left)
 
 returns-6 : tie.Need-returns-6
-returns-6 c = sym (last (c .before) ∙ ap (λ (t : Bool). cond t 8 9) (c .if6 .taken))
+returns-6 c p = sym (last (c .before) p ∙ ap (λ (t : Bool). cond t 8 9) (c .if6 .taken))
 
 returns-7 : tie.Need-returns-7
-returns-7 c = sym (last (c .before) ∙ ap (λ (t : Bool). cond t 8 9) (c .if6 .left))
+returns-7 c p = sym (last (c .before) p ∙ ap (λ (t : Bool). cond t 8 9) (c .if6 .left))
 
 pub amount-number-spec : {M : Type 1} → statement M
 amount-number-spec = tie.close (tie.spec

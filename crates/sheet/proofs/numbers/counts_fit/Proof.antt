@@ -69,13 +69,13 @@ either-fits c =
     (c .before .before .before .between2 .ensures ∙ ap (between _) (c .before .before .before .before .eithers .ensures)) (own-is u (s .either .now))
 
 returns : tie.Need-returns
-returns c held =
+returns c p held =
     let s = start (c .before .before .before .before .before .before .before .before .before) .args in
     let either = touched (s .m) (s .c) (fitsCount (s .m) (between (own (s .m) (s .either .now) (s .c)) (eithers (s .to))) (s .either .now)) in
     either-fits c ∙ ap (λ (t : Bool). t && either) (sym (c .before .if1 .taken) ∙ outside-fits (c .before .before))
 
 returns-2 : tie.Need-returns-2
-returns-2 c held =
+returns-2 c p held =
     let s = start (c .before .before .before .before .before .before .before .before) .args in
     let either = touched (s .m) (s .c) (fitsCount (s .m) (between (own (s .m) (s .either .now) (s .c)) (eithers (s .to))) (s .either .now)) in
     c .if1 .left ∙ ap (λ (t : Bool). t && either) (sym (c .if1 .left) ∙ outside-fits (c .before))

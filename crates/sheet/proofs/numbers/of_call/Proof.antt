@@ -9,7 +9,7 @@ use Rattle.sheet.proofs.numbers.of_call.Statement.{statement}
 use Rattle.sheet.proofs.numbers.of_call.Tie as tie
 
 abbrev sheetIn : tie.Start → Sheet
-sheetIn s = sheetWith (s .args .m) (s .args .outside .now) (s .args .either .now) (s .args .held .now)
+sheetIn s = sheetWith (s .args .m) (s .args .profile) (s .args .outside .now) (s .args .either .now) (s .args .held .now)
 
 returns : tie.Need-returns
 returns c =
@@ -17,11 +17,11 @@ returns c =
 
 returns-2 : tie.Need-returns-2
 returns-2 c =
-    c .amount-number .ensures ∙ sym (ap (numberOn mostMarks (sheetIn (c .before .before .before .before .before .before .before))) (c .before .before .call2 .given .1))
+    c .amount-number .ensures _ ∙ sym (ap (numberOn mostMarks (sheetIn (c .before .before .before .before .before .before .before))) (c .before .before .call2 .given .1))
 
 returns-3 : tie.Need-returns-3
 returns-3 c =
-    c .amount-number2 .ensures ∙ sym (ap (numberOn mostMarks (sheetIn (c .before .before .before .before .before .before .before))) (c .before .before .call3 .given .1))
+    c .amount-number2 .ensures _ ∙ sym (ap (numberOn mostMarks (sheetIn (c .before .before .before .before .before .before .before))) (c .before .before .call3 .given .1))
 
 pub of-call-spec : {M : Type 1} → statement M
 of-call-spec = tie.close (tie.spec

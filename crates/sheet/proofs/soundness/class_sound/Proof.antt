@@ -1,36 +1,37 @@
 -- One test after another.
-use Prim.Native.Nat.{ℕ, _+_, _^_, _≤_, _<_}
+use mathlib.Core.Bool.{true}
 use mathlib.Core.Logic.{⊎-elim}
-use mathlib.Core.Path.{_∙_}
+use mathlib.Core.Path.{_≡_, sym, _∙_}
 use native.Mathlib.Omega.{arith}
 use borrow.Author.Needs.{needs}
 use Rattle.ground.specs.Decides.{Decides}
 use Rattle.ground.proofs.Cases.{decided-no, denied}
-use Rattle.tables.specs.Tables.{entry, own, Sums}
-use Rattle.sheet.proofs.Reading.{over-boxes, decided-both}
+use Rattle.profiles.specs.Profiles.{profileOk}
+use Rattle.sheet.specs.Sound.{CountsSound}
+use Rattle.sheet.proofs.Reading.{decided-both}
 use Rattle.sheet.proofs.soundness.class_sound.Statement.{statement}
 use Rattle.sheet.proofs.soundness.class_sound.Tie as tie
 
-sums-requires : tie.Need-sums-requires
-sums-requires c κs = (omega arith, over-boxes (c .before .before .before .before .pre .0))
+ok-requires : tie.Need-ok-requires
+ok-requires c κs = omega (arith, c .before .before .before .before .pre .0 .marks)
 
-sums-requires-2 : tie.Need-sums-requires-2
-sums-requires-2 c κs = (omega arith, over-boxes (c .before .before .before .before .before .pre .1))
-
-outsides : (c : tie.Joined1)
+first-two : (c : tie.Joined1)
     → let a = c .before .before .before .before .args in
-    Decides (c .if1 .if2) (((k : ℕ) → k < 2 ^ a .m → own (a .m) (a .outside .now) k + own (a .m) (a .either .now) k ≤ 1) × Sums (a .m) (entry (a .outside .now)))
-outsides c =
-    let d = c .before .each-tells .ensures in
-    ⊎-elim (λ w. decided-both (d .yes (w .0 .taken)) (w .1 .ensures) (w .2)) (λ w. decided-no (w .1 ∙ w .0 .left) (λ p. denied d (w .0 .left) (p .0))) (c .if1 .came)
+    Decides (c .if1 .if2) (CountsSound (a .m) (a .outside .now) (a .either .now) × (profileOk (a .m) (a .profile) ≡ true))
+first-two c =
+    let d = c .before .counts-sound .ensures in
+    ⊎-elim
+    (λ w. decided-both (d .yes (w .0 .taken)) record { yes = λ e. sym (w .1 .ensures) ∙ e; sure = λ e. w .1 .ensures ∙ e } (w .2))
+    (λ w. decided-no (w .1 ∙ w .0 .left) (λ p. denied d (w .0 .left) (p .0)))
+    (c .if1 .came)
 
 returns : tie.Need-returns
 returns c =
-    let w = outsides (c .before .before) .yes (c .before .if2 .taken) in
-    record { yes = λ e. record { outsides = w .1; eithers = c .sums2 .ensures .yes e; tells = w .0 }; sure = λ s. c .sums2 .ensures .sure (s .eithers) }
+    let w = first-two (c .before .before) .yes (c .before .if2 .taken) in
+    record { yes = λ e. record { counts = w .0; profile = w .1; obeys = c .obeys .ensures .yes e }; sure = λ s. c .obeys .ensures .sure (s .obeys) }
 
 returns-2 : tie.Need-returns-2
-returns-2 c = decided-no (c .if2 .left) (λ s. denied (outsides (c .before)) (c .if2 .left) (s .tells, s .outsides))
+returns-2 c = decided-no (c .if2 .left) (λ s. denied (first-two (c .before)) (c .if2 .left) (s .counts, s .profile))
 
 pub class-sound-spec : {M : Type 1} → statement M
-class-sound-spec = tie.close (tie.spec (λ c κs. search needs) sums-requires sums-requires-2 returns returns-2)
+class-sound-spec = tie.close (tie.spec (λ c κs. search needs) ok-requires (λ c κs. search needs) returns returns-2)

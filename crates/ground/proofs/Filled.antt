@@ -3,14 +3,13 @@ use Prim.Native.Nat.{ℕ, _+_, _<_}
 use mathlib.Core.List.{List}
 use mathlib.Core.Path.{_≡_, _∙_}
 use native.Mathlib.Omega.{arith}
-use lib.ListN.{length, set, length-set}
+use lib.ListN.{length, getD, set, length-set}
 use lib.Seq.{getD-set-same, getD-set-other}
 use Rattle.ground.proofs.Cases.{below-or}
-use Rattle.sets.specs.Sets.{valueAt}
 
 pub record Filled (size : ℕ) (f : ℕ → ℕ) (n : ℕ) (t : List ℕ) : Type 0 where
   pub long : length t ≡ size
-  pub holds : (k : ℕ) → k < n → valueAt t k ≡ f k
+  pub holds : (k : ℕ) → k < n → getD t k 0 ≡ f k
 
 pub filled-none : {size : ℕ} (f : ℕ → ℕ) (t : List ℕ) → length t ≡ size → Filled size f 0 t
 filled-none f t e = record { long = e; holds = λ k h. absurd (omega arith) }
