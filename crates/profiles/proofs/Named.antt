@@ -1,12 +1,21 @@
 -- The profile of groups by how many there are.
 use Prim.Native.Nat.{ℕ, suc, _≤_}
 use mathlib.Core.Path.{_≡_, refl}
+use mathlib.Core.Bool.{true}
 use mathlib.Core.List.{List, [], _∷_}
 use native.Mathlib.Omega.{arith}
 use lib.ListN.{length, getD}
-use Rattle.profiles.specs.Profiles.{profileOf}
+use lib.Dec.{eqb}
+use borrow.Author.Tests.{eqb-true}
+use Rattle.ground.proofs.Cases.{if}
+use Rattle.profiles.specs.Profiles.{countOk, profileOf}
 use Rattle.profiles.specs.declared.Profile.{Profile}
 use Rattle.profiles.specs.declared.Profile.the-variants.{None, One, Two}
+
+-- one or two
+pub count-or : {P : Type 0} (n : ℕ) → countOk n ≡ true → (n ≡ 1 → P) → (n ≡ 2 → P) → P
+unfolding countOk
+count-or n e one two = if (eqb n 1) (λ q. one (eqb-true n 1 q)) (λ q. two (eqb-true n 2 (rw q at e)))
 
 pub named-none : (l : List ℕ) → length l ≡ 0 → None ≡ profileOf l
 named-none [] e = refl

@@ -1,6 +1,6 @@
 -- The form of a record is read as that record, with nothing at 2^m and above. A section goes by induction on the combinations scanned, whatever bytes
--- follow it: the run goes from the record that has of the section what is below n to that of what is below n + 1. The sections go by induction on
--- those that are due.
+-- follow it: the run goes from the record that has of the section what is below n to that of what is below n + 1. What is due goes by
+-- induction.
 use Prim.Native.Nat.{ℕ, zero, suc, _+_, _^_, _≤_, _<_}
 use mathlib.Core.Path.{_≡_, refl, sym, ap, ap₂, _∙_, subst, fun-ext}
 use mathlib.Core.Bool.{Bool, true, false, not, cond}
@@ -13,15 +13,17 @@ use borrow.Author.Tests.{le-leb, lt-ltb, ltb-true, ltb-false}
 use Rattle.boxes.specs.Sums.{sum, only}
 use Rattle.boxes.proofs.Sums.{sum-change, sum-le, sum-term, only-le}
 use Rattle.ground.proofs.Cases.{if, clash, below-or}
+use Rattle.profiles.specs.declared.Profile.{Profile}
+use Rattle.profiles.specs.declared.Profile.the-variants.{None}
 use Rattle.sheet.specs.Limits.{mostHeld}
-use Rattle.sheet.specs.Record.{isIn, isEither, Record, opened, withStanding, withTimes}
+use Rattle.sheet.specs.Record.{isIn, isEither, Record, opened, withStanding, withProfile, withTimes, Obeys}
 use Rattle.sheet.specs.Sound.{sizeOf}
 use Rattle.sheet.specs.declared.Standing.{Standing}
 use Rattle.sheet.specs.declared.Standing.the-variants as standing
 use Rattle.sheet.proofs.Tests.{marks-most}
-use Rattle.stored.specs.Sections.{sections, bytesBehind, standsIn, numberBehind, takes, heldIn, mayStand, added}
-use Rattle.stored.specs.Fields.{marks, count as count-due, combination, behind, due, sectionsDue, entriesDue, judge, Outcome, good, Run, done, ReadingBy}
-use Rattle.stored.specs.Form.{bytes, listed, entryOf, section, sectionsOf, formBy}
+use Rattle.stored.specs.Sections.{Rest, nothing, profile, more, sections, bytesBehind, standsIn, numberBehind, takes, heldIn, mayStand, added}
+use Rattle.stored.specs.Fields.{marks, count as count-due, combination, behind, due, restDue, entriesDue, judge, Outcome, good, Run, done, ReadingBy}
+use Rattle.stored.specs.Form.{bytes, listed, entryOf, section, restOf, formBy}
 use Rattle.stored.specs.declared.Layout.{Layout}
 use Rattle.stored.specs.declared.Layout.the-variants.{First, Today}
 use Rattle.stored.specs.declared.Section.{Section}
@@ -30,7 +32,8 @@ use Rattle.stored.proofs.UpTo.{upTo, upTo-none, upTo-low, upTo-high, up
 use Rattle.stored.proofs.Runs.{goes}
 use Rattle.stored.proofs.Numbers.{number-front, drop-front, number-one, bytes-length}
 use Rattle.stored.proofs.Listed.{count, count-le}
-use Rattle.stored.proofs.IsForm.{Storable, Tells}
+use Rattle.stored.proofs.Groups.{profile-back}
+use Rattle.stored.proofs.IsForm.{Storable, Carries, Tells}
 
 -- how far each section was read: its combinations below a number
 record Far : Type 0 where
@@ -49,10 +52,10 @@ reach i e standing.In = i
 reach i e standing.Out = 0
 reach i e standing.Either = e
 
--- what was read of r
+-- what was read of r, before its profile
 abbrev having : Far → Record → Record
 having p r =
-    record { marks = r .marks; standing = λ c. upTo standing.Out (reach (p .class) (p .either) (r .standing c)) (r .standing) c; times = upTo 0 (p .held) (r .times) }
+    record { marks = r .marks; profile = None; standing = λ c. upTo standing.Out (reach (p .class) (p .either) (r .standing c)) (r .standing) c; times = upTo 0 (p .held) (r .times) }
 
 -- the standings with one combination more: n where it stands in the section, and nothing else
 module _ (f : ℕ → Standing) (n : ℕ) where
@@ -140,7 +143,7 @@ behind-fits Either n r h most = omega arith
 behind-fits Held n r h most = omega (arith, sum-term (2 ^ r .marks) (r .times) n h)
 
 -- any section
-module _ {most : ℕ} (o : Outcome) (s : Section) (rest : List Section) (r : Record) (p : Far) (st : Storable most r) where
+module _ {most : ℕ} (o : Outcome) (s : Section) (rest : Rest) (r : Record) (p : Far) (st : Storable most r) where
   entry-back : (n k low at : ℕ) (l : List ℕ) → n < 2 ^ r .marks → low ≤ n → standsIn s r n ≡ true
       → ((a : ℕ) → Run most (entriesDue s rest (having (to s (suc n) p) r) k (n + 1)) a l o)
       → Run most (entriesDue s rest (having (to s n p) r) (suc k) low) at (entryOf s r n ++ l) o
@@ -173,8 +176,8 @@ module _ {most : ℕ} (o : Outcome) (s : Section) (rest : List Section) (r : Rec
       let e : count (standsIn s r) n + only b 1 + k ≡ count (standsIn s r) n + (only b 1 + k) = omega arith in
       rw (e, append-assoc (listed (standsIn s r) (entryOf s r) n) (cond b (entryOf s r n) []) l) i
 
-  section-back : r .marks ≤ 15 → (l : List ℕ) → ((a : ℕ) → Run most (sectionsDue rest (having (to s (2 ^ r .marks) p) r)) a l o) → (at : ℕ)
-      → Run most (sectionsDue (s ∷ rest) (having (to s 0 p) r)) at (section s r ++ l) o
+  section-back : r .marks ≤ 15 → (l : List ℕ) → ((a : ℕ) → Run most (restDue rest (having (to s (2 ^ r .marks) p) r)) a l o) → (at : ℕ)
+      → Run most (restDue (more s rest) (having (to s 0 p) r)) at (section s r ++ l) o
   unfolding judge
   section-back few l next at =
       let N = 2 ^ r .marks in
@@ -189,30 +192,43 @@ module _ {most : ℕ} (o : Outcome) (s : Section) (rest : List Section) (r : Rec
       (rw (number-front 2 n (list ++ l) small, le-leb n N inside))
       (rw (drop-front 2 n (list ++ l)) (subst (λ (k : ℕ). Run most (entriesDue s rest b k 0) (at + 2) (list ++ l) o) (add-zero n) i)))
 
--- any sections, none of which was read before
-abbrev through : ℕ → List Section → Far → Far
-through N [] p = p
-through N (s ∷ rest) p = through N rest (to s N p)
+-- whatever follows, no section of which was read before
+abbrev through : ℕ → Rest → Far → Far
+through N nothing p = p
+through N profile p = p
+through N (more s rest) p = through N rest (to s N p)
 
-abbrev Fresh : ℕ → List Section → Far → Type 0
-Fresh N [] p = Unit {0}
-Fresh N (s ∷ rest) p = (to s 0 p ≡ p) × Fresh N rest (to s N p)
+abbrev Fresh : ℕ → Rest → Far → Type 0
+Fresh N nothing p = Unit {0}
+Fresh N profile p = Unit {0}
+Fresh N (more s rest) p = (to s 0 p ≡ p) × Fresh N rest (to s N p)
 
-sections-back : {most : ℕ} (r : Record) → Storable most r → r .marks ≤ 15 → (rest : List Section) (p : Far) → Fresh (2 ^ r .marks) rest p → (at : ℕ)
-    → Run most (sectionsDue rest (having p r)) at (sectionsOf rest r) (good (having (through (2 ^ r .marks) rest p) r))
-sections-back r st few [] p f at = done
-sections-back {most} r st few (s ∷ rest) p f at =
+-- the profile that is read
+abbrev carried : Rest → Profile → Profile
+carried nothing p = None
+carried profile p = p
+carried (more s rest) p = carried rest p
+
+-- what is read in the end
+abbrev outcome : Rest → Far → Record → Record
+outcome rest p r = withProfile (carried rest (r .profile)) (having (through (2 ^ r .marks) rest p) r)
+
+rest-back : {most : ℕ} (r : Record) → Storable most r → r .marks ≤ 15 → (rest : Rest) (p : Far) → Fresh (2 ^ r .marks) rest p → Obeys (outcome rest p r) → (at : ℕ)
+    → Run most (restDue rest (having p r)) at (restOf rest r) (good (outcome rest p r))
+rest-back r st few nothing p f obeys at = done
+rest-back r st few profile p f obeys at = profile-back (r .profile) (having p r) at (st .profile) obeys
+rest-back {most} r st few (more s rest) p f obeys at =
     let N = 2 ^ r .marks in
-    let o = good (having (through N rest (to s N p)) r) in
-    subst (λ (q : Far). Run most (sectionsDue (s ∷ rest) (having q r)) at (section s r ++ sectionsOf rest r) o) (f .0)
-    (section-back o s rest r p st few (sectionsOf rest r) (sections-back r st few rest (to s N p) (f .1)) at)
+    let o = good (outcome rest (to s N p) r) in
+    subst (λ (q : Far). Run most (restDue (more s rest) (having q r)) at (section s r ++ restOf rest r) o) (f .0)
+    (section-back o s rest r p st few (restOf rest r) (rest-back r st few rest (to s N p) (f .1) obeys) at)
 
 -- before the first section nothing is read, and behind the last all that the layout tells
 
-abbrev nothing : Far
-nothing = record { class = 0; either = 0; held = 0 }
+abbrev unread : Far
+unread = record { class = 0; either = 0; held = 0 }
 
-fresh : (N : ℕ) (layout : Layout) → Fresh N (sections layout) nothing
+fresh : (N : ℕ) (layout : Layout) → Fresh N (sections layout) unread
 fresh N First = (refl, (refl, tt))
 fresh N Today = (refl, (refl, (refl, tt)))
 
@@ -221,14 +237,14 @@ reach-none standing.In = refl
 reach-none standing.Out = refl
 reach-none standing.Either = refl
 
-having-none : (r : Record) → having nothing r ≡ opened (r .marks)
+having-none : (r : Record) → having unread r ≡ opened (r .marks)
 having-none r =
-    ap₂ (λ (f : ℕ → Standing) (g : ℕ → ℕ). record { marks = r .marks; standing = f; times = g })
+    ap₂ (λ (f : ℕ → Standing) (g : ℕ → ℕ). record { marks = r .marks; profile = None; standing = f; times = g })
     (fun-ext (λ c. upTo-high standing.Out (r .standing) _ c (omega (arith, reach-none (r .standing c))))) (upTo-none 0 (r .times))
 
 -- the record without what is at 2^m and above
 abbrev pub cut : Record → Record
-cut r = record { marks = r .marks; standing = upTo standing.Out (2 ^ r .marks) (r .standing); times = upTo 0 (2 ^ r .marks) (r .times) }
+cut r = record { marks = r .marks; profile = r .profile; standing = upTo standing.Out (2 ^ r .marks) (r .standing); times = upTo 0 (2 ^ r .marks) (r .times) }
 
 upTo-out : (f : ℕ → Standing) (n c : ℕ) → f c ≡ standing.Out → upTo standing.Out n f c ≡ standing.Out
 upTo-out f n c e = below-or c n (λ l. upTo-low standing.Out f n c l ∙ e) (λ l. upTo-high standing.Out f n c l)
@@ -241,14 +257,17 @@ reach-all f N e c h standing.Either k all =
     below-or c N (λ l. ap (λ (x : ℕ). upTo standing.Out x f c) (all refl l))
     (λ l. upTo-high standing.Out f e c (omega arith) ∙ sym (upTo-high standing.Out f N c l))
 
-having-all : (layout : Layout) (r : Record) → Tells layout r → having (through (2 ^ r .marks) (sections layout) nothing) r ≡ cut r
-having-all First r tells =
-    ap (λ (f : ℕ → Standing). withStanding f (cut r))
+outcome-all : (layout : Layout) (r : Record) → Tells layout r → outcome (sections layout) unread r ≡ cut r
+outcome-all First r tells =
+    ap₂ (λ (p : Profile) (f : ℕ → Standing). withProfile p (withStanding f (cut r))) (sym (tells .profile))
     (fun-ext (λ c. reach-all (r .standing) (2 ^ r .marks) 0 c (omega arith) (r .standing c) refl
-    (λ y l. clash y (tells Either (λ e. omega arith, (λ e. omega arith, tt)) c l))))
-having-all Today r tells =
+    (λ y l. clash y (tells .absent Either (λ e. omega arith, (λ e. omega arith, tt)) c l))))
+outcome-all Today r tells =
     ap (λ (f : ℕ → Standing). withStanding f (cut r))
     (fun-ext (λ c. reach-all (r .standing) (2 ^ r .marks) (2 ^ r .marks) c (omega arith) (r .standing c) refl (λ y l. refl)))
+
+cut-obeys : (r : Record) → Obeys r → Obeys (cut r)
+cut-obeys r obeys c l b = ap isEither (upTo-low standing.Out (r .standing) (2 ^ r .marks) c l) ∙ obeys c l b
 
 -- what is written of a record that the layout tells is read as it, without that
 pub reads-back : {most : ℕ} (layout : Layout) (r : Record) → most ≤ 15 → Storable most r → Tells layout r → ReadingBy layout most (formBy layout r) (good (cut r))
@@ -256,8 +275,9 @@ unfolding judge formBy
 reads-back {most} layout r few st tells =
     let m = r .marks in
     let le : m ≤ 15 = omega (arith, marks-most most m (st .marks)) in
-    let all = sections-back r st le (sections layout) nothing (fresh (2 ^ m) layout) 1 in
-    let l = sectionsOf (sections layout) r in
-    goes (marks (sections layout)) (m ∷ l) (sectionsDue (sections layout) (opened m)) (omega arith) (rw (number-one m l, st .marks))
-    (subst (λ (u : Record). Run most (sectionsDue (sections layout) u) 1 l (good (cut r))) (having-none r)
-    (subst (λ (u : Record). Run most (sectionsDue (sections layout) (having nothing r)) 1 l (good u)) (having-all layout r tells) all))
+    let all-read = outcome-all layout r tells in
+    let all = rest-back r st le (sections layout) unread (fresh (2 ^ m) layout) (subst Obeys (sym all-read) (cut-obeys r (st .obeys))) 1 in
+    let l = restOf (sections layout) r in
+    goes (marks (sections layout)) (m ∷ l) (restDue (sections layout) (opened m)) (omega arith) (rw (number-one m l, st .marks))
+    (subst (λ (u : Record). Run most (restDue (sections layout) u) 1 l (good (cut r))) (having-none r)
+    (subst (λ (u : Record). Run most (restDue (sections layout) (having unread r)) 1 l (good u)) all-read all))

@@ -5,6 +5,7 @@ pub mod Settled
 pub mod Numbers
 pub mod Listed
 pub mod Sections
+pub mod Groups
 pub mod IsForm
 pub mod Back
 pub mod Trips

@@ -16,6 +16,7 @@ use Rattle.stored.specs.Answers.{readOf, Reads}
 use Rattle.stored.specs.Form.{bytes, listed, formBy, form}
 use Rattle.stored.specs.declared.Layout.the-variants.{First}
 use Rattle.stored.specs.Sample.{sample}
+use Rattle.stored.proofs.Groups.{none-obeys}
 use Rattle.stored.proofs.Trips.{form-same, told-agrees, form-same-sheet}
 
 pub sample-stored : form sample
@@ -42,5 +43,5 @@ pub sample-read : {a : Read} → Reads mostMarks entries (form sample) a → a �
 unfolding marksOk sum
 sample-read {a} x =
     let long : 3 ^ mostMarks ≤ entries = omega arith in
-    form-same-sheet mostMarks entries long (omega arith) sample (record { marks = refl; most-held = omega arith; apart = sample-apart })
+    form-same-sheet mostMarks entries long (omega arith) sample (record { marks = refl; profile = refl; obeys = none-obeys sample refl; most-held = omega arith; apart = sample-apart })
     (subst (λ (t : List ℕ). Reads mostMarks entries t a) (sym (form-same (told-agrees mostMarks entries long sample refl))) x)

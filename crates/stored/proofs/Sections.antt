@@ -3,7 +3,7 @@
 use Prim.Native.Nat.{ℕ, suc, _+_, _^_, _≤_, _<_}
 use mathlib.Core.Path.{_≡_, refl, sym, ap, _∙_}
 use mathlib.Core.Bool.{true, false}
-use mathlib.Core.List.{List, [], _∷_}
+use mathlib.Core.List.{_∷_}
 use native.Mathlib.Omega.{arith}
 use lib.Dec.{leb, ltb}
 use borrow.Author.Tests.{leb-true, ltb-false, lt-ltb, not-true}
@@ -12,7 +12,7 @@ use Rattle.ground.proofs.Cases.{clash, same-or, and-left, and-right}
 use Rattle.sheet.specs.Limits.{mostHeld}
 use Rattle.sheet.specs.Record.{isIn, isEither, Record, updated, opened}
 use Rattle.sheet.specs.declared.Standing.the-variants as standing
-use Rattle.stored.specs.Sections.{sections, bytesBehind, standsIn, numberBehind, takes, heldIn, mayStand, added}
+use Rattle.stored.specs.Sections.{Rest, nothing, profile, more, sections, bytesBehind, standsIn, numberBehind, takes, heldIn, mayStand, added}
 use Rattle.stored.specs.Form.{bytes, entryOf}
 use Rattle.stored.specs.declared.Layout.{Layout}
 use Rattle.stored.specs.declared.Layout.the-variants.{First, Today}
@@ -27,22 +27,25 @@ rank Either = 1
 rank Held = 2
 
 -- sections in that order, the first at k or behind
-abbrev pub Rising : ℕ → List Section → Type 0
-Rising k [] = Unit {0}
-Rising k (s ∷ rest) = (k ≤ rank s) × Rising (suc (rank s)) rest
+abbrev pub Rising : ℕ → Rest → Type 0
+Rising k nothing = Unit {0}
+Rising k profile = Unit {0}
+Rising k (more s rest) = (k ≤ rank s) × Rising (suc (rank s)) rest
 
 pub rising : (layout : Layout) → Rising 0 (sections layout)
 rising First = omega arith
 rising Today = omega arith
 
 -- u is none of the sections
-abbrev pub Misses : Section → List Section → Type 0
-Misses u [] = Unit {0}
-Misses u (s ∷ rest) = (rank u ≡ rank s → ⊥) × Misses u rest
+abbrev pub Misses : Section → Rest → Type 0
+Misses u nothing = Unit {0}
+Misses u profile = Unit {0}
+Misses u (more s rest) = (rank u ≡ rank s → ⊥) × Misses u rest
 
-pub misses : {k : ℕ} (u : Section) (rest : List Section) → Rising k rest → rank u < k → Misses u rest
-misses u [] up l = tt
-misses u (s ∷ rest) up l = (λ e. omega arith, misses u rest (up .1) (omega arith))
+pub misses : {k : ℕ} (u : Section) (rest : Rest) → Rising k rest → rank u < k → Misses u rest
+misses u nothing up l = tt
+misses u profile up l = tt
+misses u (more s rest) up l = (λ e. omega arith, misses u rest (up .1) (omega arith))
 
 pub opened-none : (m : ℕ) (u : Section) (c : ℕ) → standsIn u (opened m) c ≡ false
 opened-none m Class c = refl
@@ -59,18 +62,19 @@ stands-same Held r q c e t = (ap (ltb 0) t, t)
 -- q differs from r in the section s alone
 pub record OnlyIn (s : Section) (r q : Record) : Type 0 where
   pub marks : q .marks ≡ r .marks
+  pub profile : q .profile ≡ r .profile
   pub same : (u : Section) → (rank u ≡ rank s → ⊥) → (c : ℕ) → (standsIn u q c ≡ standsIn u r c) × (numberBehind u q c ≡ numberBehind u r c)
 
 pub only-same : (s : Section) (r : Record) → OnlyIn s r r
-only-same s r = record { marks = refl; same = λ u n c. (refl, refl) }
+only-same s r = record { marks = refl; profile = refl; same = λ u n c. (refl, refl) }
 
 pub only-then : {s : Section} {r q v : Record} → OnlyIn s r q → OnlyIn s q v → OnlyIn s r v
-only-then x y = record { marks = y .marks ∙ x .marks; same = λ u n c. (y .same u n c .0 ∙ x .same u n c .0, y .same u n c .1 ∙ x .same u n c .1) }
+only-then x y = record { marks = y .marks ∙ x .marks; profile = y .profile ∙ x .profile; same = λ u n c. (y .same u n c .0 ∙ x .same u n c .0, y .same u n c .1 ∙ x .same u n c .1) }
 
-added-marks : (s : Section) (r : Record) (c x : ℕ) → added s r c x .marks ≡ r .marks
-added-marks Class r c x = refl
-added-marks Either r c x = refl
-added-marks Held r c x = refl
+added-marks : (s : Section) (r : Record) (c x : ℕ) → (added s r c x .marks ≡ r .marks) × (added s r c x .profile ≡ r .profile)
+added-marks Class r c x = (refl, refl)
+added-marks Either r c x = (refl, refl)
+added-marks Held r c x = (refl, refl)
 
 -- at the combination
 
@@ -129,7 +133,7 @@ added-same Held Either r c x y e none n = (refl, refl)
 added-same Held Held r c x y e none n = absurd (n refl)
 
 pub added-only : (s : Section) (r : Record) (c x : ℕ) → takes s r c ≡ true → ((v : Section) → rank s < rank v → standsIn v r c ≡ false) → OnlyIn s r (added s r c x)
-added-only s r c x e none = record { marks = added-marks s r c x; same = λ u n y. added-same s u r c x y e none n }
+added-only s r c x e none = let kept = added-marks s r c x in record { marks = kept .0; profile = kept .1; same = λ u n y. added-same s u r c x y e none n }
 
 added-apart : (s : Section) (r : Record) (c x : ℕ) → takes s r c ≡ true → ((v : Section) → rank s < rank v → standsIn v r c ≡ false)
     → isEither (added s r c x .standing c) ≡ true → added s r c x .times c ≡ 0

@@ -7,15 +7,17 @@ use native.Mathlib.Nat.{one-le-pow, pow-le-pow-right}
 use native.Mathlib.Omega.{arith}
 use lib.ListN.{length, take, drop, length-append}
 use lib.Seq.{take-at}
-use borrow.Author.Tests.{le-leb, lt-ltb, le-ltb}
+use lib.Dec.{eqb}
+use borrow.Author.Tests.{eqb-true, le-leb, lt-ltb, le-ltb}
 use Rattle.boxes.specs.Boxes.{allFree}
 use Rattle.boxes.proofs.Boxes.{sumIn-all}
 use Rattle.boxes.proofs.Sums.{sum-zero}
-use Rattle.ground.proofs.Cases.{clash, below-or, mark}
+use Rattle.ground.proofs.Cases.{clash, below-or, mark, and-left, and-right}
 use Rattle.tables.specs.Tables.{own}
 use Rattle.tables.proofs.Entries.{afresh-own}
+use Rattle.profiles.specs.declared.Profile.{Profile}
 use Rattle.sheet.specs.Limits.{marksOk}
-use Rattle.sheet.specs.Record.{isEither, outs, eithers, outside-counts, either-counts, Record, sheetOf, opened}
+use Rattle.sheet.specs.Record.{isEither, outs, eithers, outside-counts, either-counts, Record, Obeys, sheetOf, opened}
 use Rattle.sheet.specs.Sound.{Ready, sizeOf, ownIn, tells, toldBy, recordOf}
 use Rattle.sheet.specs.declared.Standing.the-variants as standing
 use Rattle.sheet.specs.declared.Sheet.{Sheet}
@@ -25,8 +27,8 @@ use Rattle.sheet.proofs.Opening.{sheet-same}
 use Rattle.sheet.proofs.Kept.{class-sound, standing-told, times-sound}
 use Rattle.stored.specs.declared.Read.{Read}
 use Rattle.stored.specs.Fields.{Bytes, marks, due, Outcome, good, refused, Run}
-use Rattle.stored.specs.Sections.{sections, bytesBehind, standsIn, numberBehind}
-use Rattle.stored.specs.Form.{bytes, entryOf, entriesOf, section, sectionsOf, formBy, form}
+use Rattle.stored.specs.Sections.{Rest, nothing, profile, more, sections, bytesBehind, standsIn, numberBehind}
+use Rattle.stored.specs.Form.{bytes, entryOf, entriesOf, section, profileBytes, restOf, formBy, form}
 use Rattle.stored.specs.declared.Layout.{Layout}
 use Rattle.stored.specs.declared.Layout.the-variants.{Today}
 use Rattle.stored.specs.declared.Section.{Section}
@@ -38,39 +40,42 @@ use Rattle.stored.proofs.Refusals.{never-done}
 use Rattle.stored.proofs.Numbers.{bytes-length}
 use Rattle.stored.proofs.Listed.{listed-length}
 use Rattle.stored.proofs.Sections.{stands-same}
+use Rattle.stored.proofs.Groups.{none-obeys}
 use Rattle.stored.proofs.IsForm.{Storable, section-same, today-tells, is-form}
 use Rattle.stored.proofs.Back.{cut, reads-back}
 
--- two records of the same marks with the same standings and times below 2^m
+-- two records of the same marks and profile with the same standings and times below 2^m
 pub record RecordsAgree (r q : Record) : Type 0 where
   pub marks : r .marks ≡ q .marks
+  pub profile : r .profile ≡ q .profile
   pub standing : (c : ℕ) → c < 2 ^ r .marks → r .standing c ≡ q .standing c
   pub times : (c : ℕ) → c < 2 ^ r .marks → r .times c ≡ q .times c
 
 -- the form depends on nothing else, and so does the sheet
 
-sections-same : {r q : Record} → RecordsAgree r q → (rest : List Section) → sectionsOf rest r ≡ sectionsOf rest q
-sections-same a [] = refl
-sections-same {r} {q} a (s ∷ rest) =
+rest-same : {r q : Record} → RecordsAgree r q → (rest : Rest) → restOf rest r ≡ restOf rest q
+rest-same a nothing = refl
+rest-same a profile = ap profileBytes (a .profile)
+rest-same {r} {q} a (more s rest) =
     let same : (c : ℕ) → c < 2 ^ r .marks → (standsIn s r c ≡ standsIn s q c) × (numberBehind s r c ≡ numberBehind s q c) =
     λ c l. stands-same s r q c (a .standing c l) (a .times c l) in
-    ap₂ (λ (x y : List ℕ). x ++ y) (section-same s r q (a .marks) (λ c l. same c l .0) (λ c l. same c l .1)) (sections-same a rest)
+    ap₂ (λ (x y : List ℕ). x ++ y) (section-same s r q (a .marks) (λ c l. same c l .0) (λ c l. same c l .1)) (rest-same a rest)
 
 pub form-by-same : (layout : Layout) {r q : Record} → RecordsAgree r q → formBy layout r ≡ formBy layout q
 unfolding formBy
-form-by-same layout a = ap₂ (λ (m : ℕ) (l : List ℕ). m ∷ l) (a .marks) (sections-same a (sections layout))
+form-by-same layout a = ap₂ (λ (m : ℕ) (l : List ℕ). m ∷ l) (a .marks) (rest-same a (sections layout))
 
 pub form-same : {r q : Record} → RecordsAgree r q → form r ≡ form q
 form-same a = form-by-same Today a
 
 pub sheet-agrees : (n : ℕ) {r q : Record} → RecordsAgree r q → sheetOf n r ≡ sheetOf n q
 sheet-agrees n {r} {q} a =
-    sheet-same n (r .marks) _ _ _ _ (r .times) (q .times) (λ c l. ap outs (a .standing c l)) (λ c l. ap eithers (a .standing c l)) (a .times)
-    ∙ ap (λ (x : ℕ). sheetOf n (record { marks = x; standing = q .standing; times = q .times })) (a .marks)
+    sheet-same n (r .marks) (r .profile) _ _ _ _ (r .times) (q .times) (λ c l. ap outs (a .standing c l)) (λ c l. ap eithers (a .standing c l)) (a .times)
+    ∙ ap₂ (λ (x : ℕ) (p : Profile). sheetOf n (record { marks = x; profile = p; standing = q .standing; times = q .times })) (a .marks) (a .profile)
 
 cut-agrees : (r : Record) → RecordsAgree (cut r) r
 cut-agrees r =
-    record { marks = refl; standing = λ c l. upTo-low standing.Out (r .standing) (2 ^ r .marks) c l; times = λ c l. upTo-low 0 (r .times) (2 ^ r .marks) c l }
+    record { marks = refl; profile = refl; standing = λ c l. upTo-low standing.Out (r .standing) (2 ^ r .marks) c l; times = λ c l. upTo-low 0 (r .times) (2 ^ r .marks) c l }
 
 -- how long a form is
 section-length : (s : Section) (r : Record) → length (section s r) ≡ 2 + sizeOf (r .marks) (standsIn s r) * suc (bytesBehind s)
@@ -83,14 +88,15 @@ section-length s r =
       listed-length (standsIn s r) (entryOf s r) (suc (bytesBehind s)) (2 ^ r .marks) (λ c. ap suc (bytes-length (bytesBehind s) (numberBehind s r c))),
     )
 
-pub form-length : (r : Record) → length (form r) ≡ 7 + sizeOf (r .marks) (standsIn Class r) + sizeOf (r .marks) (standsIn Either r) + sizeOf (r .marks) (standsIn Held r) * 5
+pub form-length : (r : Record) → length (form r) ≡ 7 + sizeOf (r .marks) (standsIn Class r) + sizeOf (r .marks) (standsIn Either r) + sizeOf (r .marks) (standsIn Held r) * 5 + length (profileBytes (r .profile))
 unfolding formBy
 form-length r =
+    let p = profileBytes (r .profile) in
     omega (
       arith,
-      length-append (section Class r) (section Either r ++ (section Held r ++ [])),
-      length-append (section Either r) (section Held r ++ []),
-      length-append (section Held r) [],
+      length-append (section Class r) (section Either r ++ (section Held r ++ p)),
+      length-append (section Either r) (section Held r ++ p),
+      length-append (section Held r) p,
       section-length Class r,
       section-length Either r,
       section-length Held r,
@@ -102,6 +108,12 @@ either-told o e l =
     mark (λ (x : ℕ). x + e ≤ 1 → isEither (toldBy x e) ≡ true → tells standing.Either x e ≡ true) o (omega arith)
     (λ k. mark (λ (y : ℕ). isEither (toldBy 0 y) ≡ true → tells standing.Either 0 y ≡ true) e (omega arith) (λ q. q) (λ q. refl))
     (λ k q. clash q refl) l
+
+told-either : (o e : ℕ) → tells standing.Either o e ≡ true → isEither (toldBy o e) ≡ true
+told-either o e q =
+    let x : o ≡ 0 = eqb-true o 0 (and-left _ _ q) in
+    let y : e ≡ 1 = eqb-true e 1 (and-right (eqb o 0) _ q) in
+    rw (x, y)
 
 -- tables long enough for every m
 module _ (most n : ℕ) (long : 3 ^ most ≤ n) where
@@ -115,6 +127,7 @@ module _ (most n : ℕ) (long : 3 ^ most ≤ n) where
       let fits = boxes-fit m e in
       record {
         marks = refl;
+        profile = refl;
         standing = λ c l. ap (λ (b : Bool). cond b (toldBy (ownIn outside-counts (sheetOf n r) c) (ownIn either-counts (sheetOf n r) c)) standing.Out) (lt-ltb c (2 ^ m) l) ∙ standing-told n m fits (r .standing) c l;
         times = afresh-own n m (r .times) fits;
       }
@@ -123,7 +136,7 @@ module _ (most n : ℕ) (long : 3 ^ most ≤ n) where
   sound r s =
       let m = r .marks in
       let fits = boxes-fit m (s .marks) in
-      record { marks = s .marks; class = class-sound n m fits (r .standing); times = times-sound n m fits (r .standing) (r .times) (s .most-held) (s .apart) }
+      record { marks = s .marks; class = class-sound n r fits (s .profile) (s .obeys); times = times-sound n m fits (r .standing) (r .times) (s .most-held) (s .apart) }
 
   -- what is read is sound, whichever way of reading, if it says what can be stored; and so is what is given with a refusal
   pub read-by-sound : {R : Outcome → Type 0} {a : Read} → 1 ≤ most → ((r : Record) → R (good r) → Storable most r) → ReadBy R n a → Ready most (a .sheet)
@@ -132,13 +145,13 @@ module _ (most n : ℕ) (long : 3 ^ most ≤ n) where
     where
       by : (o : Outcome) → R o → Ready most (readOf n o .sheet)
       by (good r) y = sound r (storable r y)
-      by (refused k p) y = sound (opened 1) (record { marks = rw (le-leb 1 most h); most-held = omega (arith, sum-zero (2 ^ 1)); apart = λ c e. refl })
+      by (refused k p) y = sound (opened 1) (record { marks = rw (le-leb 1 most h); profile = refl; obeys = none-obeys (opened 1) refl; most-held = omega (arith, sum-zero (2 ^ 1)); apart = λ c e. refl })
 
   pub read-sound : (layout : Layout) → 1 ≤ most → (t : List ℕ) {a : Read} → Bytes t → ReadsBy layout most n t a → Ready most (a .sheet)
   read-sound layout h t b x = read-by-sound h (λ r y. is-form layout t b y .storable) x
 
   -- what is read as a record, or refused
-  pub read-good : {rest : List Section} {t : List ℕ} {a : Read} → ReadBy (Run most (due (marks rest)) 0 t) n a → a .number ≡ 0
+  pub read-good : {rest : Rest} {t : List ℕ} {a : Read} → ReadBy (Run most (due (marks rest)) 0 t) n a → a .number ≡ 0
       → (r : Record) × Run most (due (marks rest)) 0 t (good r) × (a ≡ readOf n (good r))
   read-good {rest} {t} {a} x e = by (x .outcome) (x .run) (x .is)
     where
@@ -151,8 +164,11 @@ module _ (most n : ℕ) (long : 3 ^ most ≤ n) where
   told-apart s f c e =
       let told : Bool → Bool = λ b. isEither (cond b (toldBy (ownIn outside-counts s c) (ownIn either-counts s c)) standing.Out) in
       below-or c (2 ^ s .marks)
-      (λ l. f .times .apart c l (either-told _ _ (f .class .tells c l) (sym (ap told (lt-ltb c (2 ^ s .marks) l)) ∙ e)))
+      (λ l. f .times .apart c l (either-told _ _ (f .class .counts .tells c l) (sym (ap told (lt-ltb c (2 ^ s .marks) l)) ∙ e)))
       (λ l. clash e (ap told (le-ltb c (2 ^ s .marks) l)))
+
+  told-obeys : (s : Sheet) → Ready most s → Obeys (recordOf s)
+  told-obeys s f c l b = rw (lt-ltb c (2 ^ s .marks) l) (told-either (ownIn outside-counts s c) (ownIn either-counts s c) (f .class .obeys c l b))
 
   fit-storable : (s : Sheet) → Ready most s → Storable most (recordOf s)
   fit-storable s f =
@@ -160,6 +176,8 @@ module _ (most n : ℕ) (long : 3 ^ most ≤ n) where
       let p : 1 ≤ 3 ^ m = one-le-pow m 3 (omega arith) in
       record {
         marks = f .marks;
+        profile = f .class .profile;
+        obeys = told-obeys s f;
         most-held = omega (arith, f .times .sums (allFree m) (omega arith), sumIn-all m (own m (s .held)), f .times .most);
         apart = told-apart s f;
       }

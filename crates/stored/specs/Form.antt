@@ -1,10 +1,12 @@
--- The bytes of a record of marks, standings and times (01, 'Stored form'; 02, Q-6).
+-- The bytes of a record of marks, profile, standings and times (01, 'Stored form'; 02, Q-6 and Q-7).
 use Prim.Native.Nat.{ℕ, zero, suc, _/_, _%_, _^_}
 use mathlib.Core.Bool.{Bool, cond}
 use mathlib.Core.List.{List, [], _∷_, _++_}
+use Rattle.profiles.specs.declared.Profile.{Profile}
+use Rattle.profiles.specs.declared.Profile.the-variants.{None, One, Two}
 use Rattle.sheet.specs.Record.{Record}
 use Rattle.sheet.specs.Sound.{sizeOf}
-use Rattle.stored.specs.Sections.{sections, bytesBehind, standsIn, numberBehind}
+use Rattle.stored.specs.Sections.{Rest, nothing, profile, more, sections, bytesBehind, standsIn, numberBehind}
 use Rattle.stored.specs.declared.Layout.{Layout}
 use Rattle.stored.specs.declared.Layout.the-variants.{Today}
 use Rattle.stored.specs.declared.Section.{Section}
@@ -30,14 +32,21 @@ entriesOf s r = listed (standsIn s r) (entryOf s r) (2 ^ r .marks)
 abbrev pub section : Section → Record → List ℕ
 section s r = bytes 2 (sizeOf (r .marks) (standsIn s r)) ++ entriesOf s r
 
--- some sections, one behind the other
-abbrev pub sectionsOf : List Section → Record → List ℕ
-sectionsOf [] r = []
-sectionsOf (s ∷ rest) r = section s r ++ sectionsOf rest r
+-- a profile: how many groups it has, in two bytes, and each in one; a sheet without a profile has nothing there
+abbrev pub profileBytes : Profile → List ℕ
+profileBytes None = []
+profileBytes (One g) = bytes 2 1 ++ (g ∷ [])
+profileBytes (Two g h) = bytes 2 2 ++ (g ∷ h ∷ [])
 
--- byte m, and the sections; nothing follows
+-- what follows, one behind the other
+abbrev pub restOf : Rest → Record → List ℕ
+restOf nothing r = []
+restOf profile r = profileBytes (r .profile)
+restOf (more s rest) r = section s r ++ restOf rest r
+
+-- byte m, and what follows it
 unfoldable pub formBy : Layout → Record → List ℕ
-formBy layout r = r .marks ∷ sectionsOf (sections layout) r
+formBy layout r = r .marks ∷ restOf (sections layout) r
 
 -- today's
 abbrev pub form : Record → List ℕ

@@ -1,7 +1,6 @@
--- The sections of the stored form (01, 'Stored form'; 02, Q-6): of each, which combinations stand in it, what stands behind one, and what an entry says.
+-- The sections of the stored form (01, 'Stored form'; 02, Q-6 and Q-7): of each, which combinations stand in it, what stands behind one, and what an entry says.
 use Prim.Native.Nat.{ℕ, _+_, _^_}
 use mathlib.Core.Bool.{Bool, true, not, _&&_}
-use mathlib.Core.List.{List, [], _∷_}
 use lib.Dec.{leb, ltb}
 use Rattle.boxes.specs.Sums.{sum}
 use Rattle.sheet.specs.Limits.{mostHeld}
@@ -12,10 +11,16 @@ use Rattle.stored.specs.declared.Layout.the-variants.{First, Today}
 use Rattle.stored.specs.declared.Section.{Section}
 use Rattle.stored.specs.declared.Section.the-variants.{Class, Either, Held}
 
--- their order: 01's form has no either combinations
-abbrev pub sections : Layout → List Section
-sections First = Class ∷ Held ∷ []
-sections Today = Class ∷ Either ∷ Held ∷ []
+-- what follows in a form: nothing more, or a profile if the sheet has one, or a section and what follows it
+pub data Rest : Type 0 where
+  nothing : Rest
+  profile : Rest
+  more : Section → Rest → Rest
+
+-- the sections in their order: 01's form has no either combinations and no profile
+abbrev pub sections : Layout → Rest
+sections First = more Class (more Held nothing)
+sections Today = more Class (more Either (more Held profile))
 
 -- a combination of the class, or an either one, is one byte; a held one has its seconds behind it, in four
 abbrev pub bytesBehind : Section → ℕ

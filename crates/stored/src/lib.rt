@@ -28,7 +28,7 @@ impl Read {
     }
 }
 
-// The layouts of a stored form: 01's, and today's, which has the either combinations behind the class.
+// The layouts of a stored form: 01's, and today's, which has the either combinations behind the class and may end with a profile.
 pub enum Layout {
     First,
     Today,
