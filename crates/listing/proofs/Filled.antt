@@ -86,10 +86,10 @@ pub bits-of : (m : ℕ) (outside either : List ℕ) (x y : ℕ) → x < 2 ^ (2 ^
     → BitsOf m outside either (record { need = bitAnd x y; room = x })
 bits-of m outside either x y small hx hy = record {
   small = omega (arith, and-le-l x y);
-  need = λ held. fun-ext
-      (λ c. has-and c x y ∙ ap₂ (λ (p q : ℕ → Bool). p c && q c) hx hy ∙ both (ltb c (2 ^ m)) (inside m outside c) (inside m either c)
-      ∙ sym (told-in (sheetWith m outside either held) c));
-  room = λ held. hx ∙ fun-ext (λ c. sym (told-not-out (sheetWith m outside either held) c));
+  need = λ p held. fun-ext
+      (λ c. has-and c x y ∙ ap₂ (λ (f g : ℕ → Bool). f c && g c) hx hy ∙ both (ltb c (2 ^ m)) (inside m outside c) (inside m either c)
+      ∙ sym (told-in (sheetWith m p outside either held) c));
+  room = λ p held. hx ∙ fun-ext (λ c. sym (told-not-out (sheetWith m p outside either held) c));
 }
 
 -- a combination, whose single box is b, adds its seconds exactly if it has neither count

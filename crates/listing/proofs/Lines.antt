@@ -41,7 +41,8 @@ kept-over m t sums [] b = refl
 kept-over m t sums (b ∷ l) i = ap₂ (λ (x y : ℕ). x + y) (sums b (i .0)) (kept-over m t sums l (i .1))
 
 -- of a sound sheet: what its time table keeps of the lines
-pub kept-total : (s : Sheet) (l : List ℕ) → ClassSound (s .marks) (s .outside) (s .either) → TimesSound (s .marks) (s .outside) (s .either) (s .held)
+pub kept-total : (s : Sheet) (l : List ℕ) → ClassSound (s .marks) (s .profile) (s .outside) (s .either)
+    → TimesSound (s .marks) (s .outside) (s .either) (s .held)
     → Fits (s .marks) (inClass (recordOf s)) (notOut (recordOf s)) l → sumOver l (entry (s .held)) ≡ totalOf (recordOf s)
 kept-total s l class times f =
-    kept-over (s .marks) (s .held) (times .sums) l (f .boxes) ∙ lines-total (recordOf s) l (λ c. either-nothing s c class times) f
+    kept-over (s .marks) (s .held) (times .sums) l (f .boxes) ∙ lines-total (recordOf s) l (λ c. either-nothing s c (class .counts) times) f

@@ -3,6 +3,7 @@ ghost use mathlib.Core.Path.{_≡_};
 ghost use Prim.Native.Nat.{_^_, _<_, _≤_};
 ghost use lib.ListN.{length};
 ghost use Rattle.sheet.specs.Limits.{mostMarks, entries};
+ghost use Rattle.profiles.specs.declared.Profile.{Profile};
 ghost use Rattle.sheet.specs.Record.{inClass, sheetWith};
 ghost use Rattle.sheet.specs.Sound.{ClassReady, Ready, recordOf};
 ghost use mathlib.Core.Bool.{_&&_};
@@ -114,7 +115,7 @@ pub fn list(sheet: Sheet, area: &mut [u8]) -> Value
 // What the combination c adds to the class total: its seconds, if it is in the class.
 fn seconds_of(m: usize, c: usize, outside: &[u32], either: &[u32], held: &[u32]) -> u64
     requires { ⌜ (m ≤ mostMarks) × (c < 2 ^ m) × (entries ≤ length (now outside)) × (entries ≤ length (now either)) × (entries ≤ length (now held)) ⌝ }
-    ensures { λ r. ⌜ (r ≡ taken (inClass (recordOf (sheetWith m (now (outside .entry)) (now (either .entry)) (now (held .entry))))) (own m (now (held .entry))) c) × (r < 2 ^ 32) ⌝ }
+    ensures { λ r. ⌜ ((p : Profile) → r ≡ taken (inClass (recordOf (sheetWith m p (now (outside .entry)) (now (either .entry)) (now (held .entry))))) (own m (now (held .entry))) c) × (r < 2 ^ 32) ⌝ }
 {
     let at = boxes::single(m, c);
     if outside[at] != 0 {
@@ -129,7 +130,7 @@ fn seconds_of(m: usize, c: usize, outside: &[u32], either: &[u32], held: &[u32])
 // The seconds held in the class of m marks.
 fn in_class(m: usize, outside: &[u32], either: &[u32], held: &[u32]) -> u64
     requires { ⌜ (m ≤ mostMarks) × (entries ≤ length (now outside)) × (entries ≤ length (now either)) × (entries ≤ length (now held)) ⌝ }
-    ensures { λ r. ⌜ r ≡ totalOf (recordOf (sheetWith m (now (outside .entry)) (now (either .entry)) (now (held .entry)))) ⌝ }
+    ensures { λ r. ⌜ ((p : Profile) → r ≡ totalOf (recordOf (sheetWith m p (now (outside .entry)) (now (either .entry)) (now (held .entry))))) ⌝ }
 {
     let n = boxes::power2(m);
     let mut total: u64 = 0;

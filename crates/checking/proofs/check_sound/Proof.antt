@@ -25,8 +25,8 @@ returns : tie.Need-returns
 returns c =
     let s = c .before .before .before .before .before .before .before in
     let told = c .before .class-bits .ensures in
-    let held = s .args .sheet .held in
-    judged (s .pre) (judged-told (told .need held) (told .room held) (c .judged .ensures))
+    let sheet = s .args .sheet in
+    judged (s .pre) (judged-told (told .need (sheet .profile) (sheet .held)) (told .room (sheet .profile) (sheet .held)) (c .judged .ensures))
 
 pub check-sound-spec : {M : Type 1} → statement M
 check-sound-spec = tie.close (tie.spec (λ c. search needs) (λ c. search needs) class-bits-requires judged-requires returns)

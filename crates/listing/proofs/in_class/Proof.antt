@@ -7,6 +7,7 @@ use native.Mathlib.Numerals.{add-one}
 use native.Mathlib.Nat.{pow-le-pow-right}
 use borrow.Author.Needs.{needs}
 use Rattle.listing.specs.Listing.{taken}
+use Rattle.profiles.specs.declared.Profile.{Profile}
 use Rattle.sheet.specs.Record.{inClass, sheetWith}
 use Rattle.sheet.specs.Sound.{recordOf}
 use Rattle.tables.specs.Tables.{own}
@@ -14,18 +15,19 @@ use Rattle.boxes.specs.Sums.{sum}
 use Rattle.listing.proofs.in_class.Statement.{statement}
 use Rattle.listing.proofs.in_class.Tie as tie
 
-abbrev upto : ℕ → (outside either held : List ℕ) → ℕ → ℕ
-upto m outside either held n = sum n (taken (inClass (recordOf (sheetWith m outside either held))) (own m held))
+abbrev upto : ℕ → Profile → (outside either held : List ℕ) → ℕ → ℕ
+upto m p outside either held n = sum n (taken (inClass (recordOf (sheetWith m p outside either held))) (own m held))
 
 abbrev Inv-loop : tie.InvT-loop
-Inv-loop m outside either held n total₀ c₀ total c = (c ≤ n) × (n ≡ 2 ^ m) × (total ≤ c * 4294967296) × (total ≡ upto m outside either held c)
+Inv-loop m outside either held n total₀ c₀ total c =
+    (c ≤ n) × (n ≡ 2 ^ m) × (total ≤ c * 4294967296) × ((p : Profile) → total ≡ upto m p outside either held c)
 
 abbrev μ-loop : tie.MeasureT-loop
 μ-loop m outside either held n total₀ c₀ total c = n - c
 
 loop-holds : tie.Need-loop-holds Inv-loop μ-loop
 unfolding sum
-loop-holds c = (omega arith, c .power2 .ensures .0, omega arith, refl)
+loop-holds c = (omega arith, c .power2 .ensures .0, omega arith, λ p. refl)
 
 add-total : tie.Need-add-total Inv-loop μ-loop
 add-total c = omega (arith, c .seconds-of .ensures .1, pow-le-pow-right {n = 2} (omega arith) {i = c .before .before .before .before .before .before .before .args .m} {j = 5} (omega arith))
@@ -38,7 +40,7 @@ loop-again c =
       omega arith,
       l .inv .1,
       omega (arith, c .seconds-of .ensures .1),
-      rw (l .inv .3, c .seconds-of .ensures .0) (ap (upto (a .m) (a .outside .now) (a .either .now) (a .held .now)) (sym (add-one (l .c)))),
+      λ p. rw (l .inv .3 p, c .seconds-of .ensures .0 p) (ap (upto (a .m) p (a .outside .now) (a .either .now) (a .held .now)) (sym (add-one (l .c)))),
     )
 
 returns : tie.Need-returns Inv-loop μ-loop
@@ -46,7 +48,7 @@ returns c =
     let l = c .before .loop in
     let a = c .before .before .before .before .before .before .args in
     let e : l .c ≡ 2 ^ a .m = omega arith in
-    l .inv .3 ∙ ap (upto (a .m) (a .outside .now) (a .either .now) (a .held .now)) e
+    λ p. l .inv .3 p ∙ ap (upto (a .m) p (a .outside .now) (a .either .now) (a .held .now)) e
 
 pub in-class-spec : {M : Type 1} → statement M
 in-class-spec = tie.close (tie.spec

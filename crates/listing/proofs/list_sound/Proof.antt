@@ -44,8 +44,9 @@ returns-2 c =
     let p = b .before .before .before .before in
     let s = p .before .before .before .before in
     let told = b .class-bits .ensures in
-    let held = s .args .sheet .held in
-    searched (s .pre) (omega (arith, p .power2 .ensures .0)) (searched-told (told .need held) (told .room held) (c .before .before .searched .ensures))
+    let sheet = s .args .sheet in
+    searched (s .pre) (omega (arith, p .power2 .ensures .0))
+    (searched-told (told .need (sheet .profile) (sheet .held)) (told .room (sheet .profile) (sheet .held)) (c .before .before .searched .ensures))
 
 pub list-sound-spec : {M : Type 1} → statement M
 list-sound-spec =

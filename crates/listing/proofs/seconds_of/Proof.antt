@@ -9,6 +9,7 @@ use borrow.Author.Tests.{eq-eqb, ne-eqb}
 use borrow.Author.Needs.{needs}
 use Rattle.boxes.specs.Sums.{only}
 use Rattle.tables.specs.Tables.{entry, own}
+use Rattle.profiles.specs.declared.Profile.{Profile}
 use Rattle.sheet.specs.Limits.{entries}
 use Rattle.sheet.specs.Record.{inClass, sheetWith}
 use Rattle.sheet.specs.Sound.{recordOf}
@@ -20,13 +21,13 @@ use Rattle.listing.proofs.seconds_of.Tie as tie
 small : (c : tie.After-single) → c .single .result < entries
 small c = omega (arith, c .single .ensures .1, pow-le-pow-right {n = 3} (omega arith) {i = c .before .before .before .before .args .m} {j = 5} (omega arith))
 
-adds : (c : tie.After-single)
+adds : (c : tie.After-single) (p : Profile)
     → let a = c .before .before .before .before .args in
-    let b = c .single .result in taken (inClass (recordOf (sheetWith (a .m) (a .outside .now) (a .either .now) (a .held .now)))) (own (a .m) (a .held .now)) (a .c)
+    let b = c .single .result in taken (inClass (recordOf (sheetWith (a .m) p (a .outside .now) (a .either .now) (a .held .now)))) (own (a .m) (a .held .now)) (a .c)
     ≡ only (eqb (entry (a .outside .now) b) 0 && eqb (entry (a .either .now) b) 0) (entry (a .held .now) b)
-adds c =
+adds c p =
     let a = c .before .before .before .before .args in
-    taken-is (sheetWith (a .m) (a .outside .now) (a .either .now) (a .held .now)) _ _ (c .before .before .before .before .pre .1) (c .single .ensures .0)
+    taken-is (sheetWith (a .m) p (a .outside .now) (a .either .now) (a .held .now)) _ _ (c .before .before .before .before .pre .1) (c .single .ensures .0)
 
 single-requires : tie.Need-single-requires
 single-requires c κs = search needs
@@ -38,7 +39,7 @@ shared-slice-read-if1 : tie.Need-shared-slice-read-if1
 shared-slice-read-if1 c = omega (arith, small (c .before), c .before .before .before .before .before .pre .2)
 
 returns : tie.Need-returns
-returns c = (sym (adds (c .before .before) ∙ rw (ne-eqb _ 0 (c .if1 .taken))), omega arith)
+returns c = (λ p. sym (adds (c .before .before) p ∙ rw (ne-eqb _ 0 (c .if1 .taken))), omega arith)
 
 mul-if2 : tie.Need-mul-if2
 mul-if2 c = omega (arith, small (c .before .before))
@@ -47,7 +48,7 @@ shared-slice-read-if2 : tie.Need-shared-slice-read-if2
 shared-slice-read-if2 c = let s = c .before .before .before in omega (arith, small s, s .before .before .before .before .pre .3)
 
 returns-2 : tie.Need-returns-2
-returns-2 c = (sym (adds (c .before .before .before .before) ∙ rw (eq-eqb _ 0 (c .before .before .if1 .left), ne-eqb _ 0 (c .if2 .taken))), omega arith)
+returns-2 c = (λ p. sym (adds (c .before .before .before .before) p ∙ rw (eq-eqb _ 0 (c .before .before .if1 .left), ne-eqb _ 0 (c .if2 .taken))), omega arith)
 
 mul-wide : tie.Need-mul-wide
 mul-wide c = omega (arith, small (c .before .before .before .before))
@@ -61,7 +62,7 @@ wide-requires c κs = search needs
 returns-3 : tie.Need-returns-3
 returns-3 c =
     let e = c .before .before in (
-      c .wide .ensures .0 ∙ sym (adds (e .before .before .before .before) ∙ rw (eq-eqb _ 0 (e .before .before .if1 .left), eq-eqb _ 0 (e .if2 .left))),
+      λ p. c .wide .ensures .0 ∙ sym (adds (e .before .before .before .before) p ∙ rw (eq-eqb _ 0 (e .before .before .if1 .left), eq-eqb _ 0 (e .if2 .left))),
       c .wide .ensures .1,
     )
 

@@ -27,7 +27,7 @@ in-class-requires c κs =
     (marks-most mostMarks _ (s .pre .marks), omega (arith, l .0), omega (arith, l .1), omega (arith, l .2))
 
 returns : tie.Need-returns
-returns c = c .in-class .ensures
+returns c = c .in-class .ensures (c .before .before .before .before .before .before .before .args .sheet .profile)
 
 pub total-sound-spec : {M : Type 1} → statement M
 total-sound-spec =
