@@ -53,7 +53,7 @@ module _ (r : Record) (good : Good r) where
   pub ready-afresh : Ready mostMarks (sheetOf entries r)
   ready-afresh = record {
     marks = good .marks;
-    class = class-sound entries (r .marks) room (r .standing);
+    class = class-sound entries r room (good .profile) (good .obeys);
     times = times-sound entries (r .marks) room (r .standing) (r .times) (good .times) (good .apart);
   }
 

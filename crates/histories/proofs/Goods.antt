@@ -4,16 +4,20 @@ use mathlib.Core.Path.{_≡_, refl, sym, _∙_, ap, subst}
 use mathlib.Core.Bool.{Bool, true, false, cond, _&&_}
 use native.Mathlib.Omega.{arith}
 use lib.Dec.{eqb, ltb}
-use borrow.Author.Tests.{leb-true, ltb-false, not-true, eq-eqb, ne-eqb}
+use borrow.Author.Tests.{leb-true, ltb-true, ltb-false, not-true, eq-eqb, ne-eqb}
 use Rattle.boxes.specs.Sums.{sum, only}
-use Rattle.ground.proofs.Cases.{clash, same-or}
+use Rattle.ground.proofs.Cases.{if, clash, same-or, and-right}
 use Rattle.boxes.proofs.Sums.{sum-change, sum-le, sum-zero}
 use Rattle.lists.specs.Lists.{Small}
+use Rattle.profiles.specs.Profiles.{profileOk, breaks, settles}
+use Rattle.profiles.specs.declared.Profile.{Profile}
+use Rattle.profiles.specs.declared.Profile.the-variants.{None}
 use Rattle.sheet.specs.Limits.{mostMarks, mostHeld, marksOk, amountOk}
-use Rattle.sheet.specs.Record.{is, isOut, isEither, Record, inClass, updated, opened}
+use Rattle.sheet.specs.Record.{is, isOut, isEither, Record, inClass, updated, openedUnder, opened}
 use Rattle.sheet.specs.declared.Call.{Call}
 use Rattle.sheet.specs.declared.Call.the-variants.{Change, Receive, Withdraw}
 use Rattle.sheet.specs.declared.Standing.{Standing}
+use Rattle.sheet.proofs.Kept.{opened-obeys}
 use Rattle.sheet.proofs.Told.{in-not-out}
 use Rattle.histories.specs.Histories.{Good, numberOf, accepted, after}
 use Rattle.histories.proofs.Kept.{in-range, change-passed, receive-passed}
@@ -28,14 +32,17 @@ by-place P c to standing x here other = same-or x c (λ q. rw (eq-eqb x c q) (he
 pub good-accepted : (r : Record) → Good r → (k : Call) → numberOf r k ≡ 0 → Good (accepted r k)
 good-accepted r good (Change to c) z =
     let w = in-range (r .marks) c _ z in
-    let p = change-passed (is to (r .standing c)) (isEither to && ltb 0 (r .times c)) (w .1) in
+    let p = change-passed (settles (r .marks) (r .profile) c) (is to (r .standing c)) (isEither to && ltb 0 (r .times c)) (w .1) in
     record {
       marks = good .marks;
+      profile = good .profile;
+      obeys = λ x l b. by-place (λ (s : Standing). isEither s ≡ true) c to (r .standing) x
+          (λ q. clash (rw (ap (breaks (r .marks) (r .profile)) (sym q) ∙ b, good .profile)) (p .0)) (λ q. good .obeys x l b);
       standing = λ x. by-place (λ (s : Standing). isOut s ≡ false → x < 2 ^ r .marks) c to (r .standing) x
           (λ q e. omega (arith, w .0)) (λ q e. good .standing x e);
       times = good .times;
       apart = λ x. by-place (λ (s : Standing). isEither s ≡ true → r .times x ≡ 0) c to (r .standing) x
-          (λ q e. ap (r .times) q ∙ none-held (ltb-false 0 (r .times c) (sym (ap (λ (t : Bool). t && ltb 0 (r .times c)) e) ∙ p .1)))
+          (λ q e. ap (r .times) q ∙ none-held (ltb-false 0 (r .times c) (sym (ap (λ (t : Bool). t && ltb 0 (r .times c)) e) ∙ p .2)))
           (λ q e. good .apart x e);
     }
 good-accepted r good (Receive c d) z =
@@ -45,6 +52,8 @@ good-accepted r good (Receive c d) z =
     let more = sum-change (2 ^ r .marks) (r .times) (λ x. r .times x + only (eqb x c) d) c d (w .0) (λ x l n. rw (ne-eqb x c n) (omega arith)) (rw (eq-eqb c c refl)) in
     record {
       marks = good .marks;
+      profile = good .profile;
+      obeys = good .obeys;
       standing = good .standing;
       times = omega arith;
       apart = λ x e. same-or x c
@@ -53,6 +62,8 @@ good-accepted r good (Receive c d) z =
     }
 good-accepted r good (Withdraw c d) z = record {
   marks = good .marks;
+  profile = good .profile;
+  obeys = good .obeys;
   standing = good .standing;
   times = omega (arith, good .times, sum-le (2 ^ r .marks) (λ x. r .times x - only (eqb x c) d) (r .times) (λ x l. omega arith));
   apart = λ x e. omega (arith, good .apart x e);
@@ -64,9 +75,20 @@ good-after r good k =
     (λ z. subst (λ (t : Bool). Good (cond t (accepted r k) r)) (sym (eq-eqb (numberOf r k) 0 z)) (good-accepted r good k z))
     (λ n. subst (λ (t : Bool). Good (cond t (accepted r k) r)) (sym (ne-eqb (numberOf r k) 0 n)) good)
 
--- a history begins with an opened sheet's record
+-- a history begins with an opened sheet's record, under a profile or without one
+
+pub good-opened-under : (m : ℕ) (p : Profile) → marksOk mostMarks m ≡ true → profileOk m p ≡ true → Good (openedUnder m p)
+good-opened-under m p e ok = record {
+  marks = e;
+  profile = ok;
+  obeys = opened-obeys m p;
+  standing = λ c w. if (breaks m p c && ltb c (2 ^ m)) (λ y. ltb-true c (2 ^ m) (and-right (breaks m p c) _ y)) (λ n. clash (rw n) w);
+  times = omega (arith, sum-zero (2 ^ m));
+  apart = λ c w. refl;
+}
+
 pub good-opened : (m : ℕ) → marksOk mostMarks m ≡ true → Good (opened m)
-good-opened m e = record { marks = e; standing = λ c w. clash refl w; times = omega (arith, sum-zero (2 ^ m)); apart = λ c w. refl }
+good-opened m e = good-opened-under m None e refl
 
 -- no number that is no combination is in its class
 pub good-small : {r : Record} → Good r → Small (r .marks) (inClass r)

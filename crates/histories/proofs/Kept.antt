@@ -31,11 +31,12 @@ in-range m c x z =
     (λ l. (l, ap (λ (t : Bool). cond t 2 x) (sym (lt-leb (2 ^ m) c l)) ∙ z))
     (λ l. absurd (omega (arith, ap (λ (t : Bool). cond t 2 x) (sym (le-leb (2 ^ m) c l)) ∙ z)))
 
--- a class change: another standing, and nothing held by what becomes either
-pub change-passed : (e f : Bool) → _≡_ {A = ℕ} (cond e 3 (cond f 12 0)) 0 → (e ≡ false) × (f ≡ false)
-change-passed true f z = absurd (omega arith)
-change-passed false true z = absurd (omega arith)
-change-passed false false z = (refl, refl)
+-- a class change: not settled by the profile, another standing, and nothing held by what becomes either
+pub change-passed : (s e f : Bool) → _≡_ {A = ℕ} (cond s 12 (cond e 3 (cond f 12 0))) 0 → (s ≡ false) × (e ≡ false) × (f ≡ false)
+change-passed true e f z = absurd (omega arith)
+change-passed false true f z = absurd (omega arith)
+change-passed false false true z = absurd (omega arith)
+change-passed false false false z = (refl, refl, refl)
 
 pub receive-passed : (a e t : Bool) → _≡_ {A = ℕ} (cond (not a) 4 (cond e 12 (cond (not t) 8 0))) 0 → (e ≡ false) × (t ≡ true)
 receive-passed false e t z = absurd (omega arith)
@@ -80,15 +81,15 @@ module _ (n : ℕ) (r : Record) (fits : 3 ^ r .marks ≤ n) (marks : marksOk mos
 -- so the moved sheet is the one worked out afresh from the record after the call
 module _ (n : ℕ) (v : Move) (r q : Record) where
   moved-sheet : v .at < 2 ^ r .marks → ((t : Table) → ShiftsAt (r .marks) (v .at) (shiftIn t v) (quantity t r) (quantity t q))
-      → movedSheet v (sheetOf n r) ≡ sheetFrom n (r .marks) (quantity outside-counts q) (quantity either-counts q) (quantity held-seconds q)
+      → movedSheet v (sheetOf n r) ≡ sheetFrom n (r .marks) (r .profile) (quantity outside-counts q) (quantity either-counts q) (quantity held-seconds q)
   moved-sheet low shifts =
       let table : (t : Table) → moved (r .marks) (v .at) (shiftIn t v) (afresh n (r .marks) (quantity t r)) ≡ afresh n (r .marks) (quantity t q) =
       λ t. moved-afresh n (r .marks) (v .at) (shiftIn t v) (quantity t r) (quantity t q) low (shifts t) in
-      ap₂ (λ (x y : List ℕ). sheetWith (r .marks) x y (moved (r .marks) (v .at) (v .held) (afresh n (r .marks) (r .times)))) (table outside-counts) (table either-counts)
-      ∙ ap (sheetWith (r .marks) (afresh n (r .marks) (quantity outside-counts q)) (afresh n (r .marks) (quantity either-counts q))) (table held-seconds)
+      ap₂ (λ (x y : List ℕ). sheetWith (r .marks) (r .profile) x y (moved (r .marks) (v .at) (v .held) (afresh n (r .marks) (r .times)))) (table outside-counts) (table either-counts)
+      ∙ ap (sheetWith (r .marks) (r .profile) (afresh n (r .marks) (quantity outside-counts q)) (afresh n (r .marks) (quantity either-counts q))) (table held-seconds)
 
 same-marks : (n : ℕ) (r : Record) (k : Call) → let q = accepted r k in
-    sheetFrom n (r .marks) (quantity outside-counts q) (quantity either-counts q) (quantity held-seconds q) ≡ sheetOf n q
+    sheetFrom n (r .marks) (r .profile) (quantity outside-counts q) (quantity either-counts q) (quantity held-seconds q) ≡ sheetOf n q
 same-marks n r (Change to c) = refl
 same-marks n r (Receive c d) = refl
 same-marks n r (Withdraw c d) = refl

@@ -18,6 +18,7 @@ use Rattle.tables.specs.Parts.{ShiftsAt}
 use Rattle.tables.proofs.Entries.{afresh-entry, afresh-own}
 use Rattle.tables.proofs.Shifts.{sum-shifts}
 use Rattle.tables.proofs.Touched.{touched-at, touched-yes}
+use Rattle.profiles.specs.Profiles.{settles}
 use Rattle.sheet.specs.Limits.{mostMarks, marksOk, amountOk, mostHeld}
 use Rattle.sheet.specs.Record.{is, isEither, outs, eithers, Record, updated, outside-counts, either-counts, held-seconds, quantity, sheetOf}
 use Rattle.sheet.specs.Sound.{ownIn, tells}
@@ -28,7 +29,7 @@ use Rattle.sheet.specs.declared.Standing.{Standing}
 use Rattle.sheet.specs.declared.Standing.the-variants.{Either}
 use Rattle.sheet.proofs.Between.{between-shifts}
 use Rattle.sheet.proofs.Kept.{adds-one, tells-is, times-total}
-use Rattle.sheet.proofs.Tests.{change-2, change-3, change-12, change-0}
+use Rattle.sheet.proofs.Tests.{change-2, change-settled, change-3, change-12, change-0}
 use Rattle.histories.specs.Histories.{numberOf}
 
 -- what a combination adds to either count
@@ -120,19 +121,23 @@ module _ (n : ℕ) (r : Record) (fits : 3 ^ r .marks ≤ n) (marks : marksOk mos
     both-fit : (to : Standing) → countsFit to (sheetOf n r) c ≡ true
     both-fit to = rw (counts-fit n (r .marks) fits c low outs outs-le (r .standing) to, counts-fit n (r .marks) fits c low eithers eithers-le (r .standing) to)
 
-    class-below : (to : Standing) → changeNo mostMarks to (sheetOf n r) c ≡ cond (is to (r .standing c)) 3 (cond (isEither to && ltb 0 (r .times c)) 12 0)
+    class-below : (to : Standing) → changeNo mostMarks to (sheetOf n r) c
+        ≡ cond (settles (r .marks) (r .profile) c) 12 (cond (is to (r .standing c)) 3 (cond (isEither to && ltb 0 (r .times c)) 12 0))
     class-below to =
         let s = sheetOf n r in
         let one : ownIn outside-counts s c + ownIn either-counts s c ≤ 1 = omega (arith, own-outs, own-eithers, adds-one (r .standing c)) in
         let kept : (isEither to && ltb 0 (ownIn held-seconds s c)) ≡ (isEither to && ltb 0 (r .times c)) = ap (λ (x : ℕ). isEither to && ltb 0 x) own-held in
-        if (is to (r .standing c))
-        (λ e. change-3 mostMarks to s c marks low one (told to ∙ e) ∙ rw e)
+        if (settles (r .marks) (r .profile) c)
+        (λ g. change-settled mostMarks to s c marks low g ∙ rw g)
+        (λ g. if (is to (r .standing c))
+        (λ e. change-3 mostMarks to s c marks low g one (told to ∙ e) ∙ rw (g, e))
         (λ e. if (isEither to && ltb 0 (r .times c))
-        (λ f. change-12 mostMarks to s c marks low one (told to ∙ e) (kept ∙ f) ∙ rw (e, f))
-        (λ f. change-0 mostMarks to s c marks low one (told to ∙ e) (kept ∙ f) (both-fit to) ∙ rw (e, f)))
+        (λ f. change-12 mostMarks to s c marks low g one (told to ∙ e) (kept ∙ f) ∙ rw (g, e, f))
+        (λ f. change-0 mostMarks to s c marks low g one (told to ∙ e) (kept ∙ f) (both-fit to) ∙ rw (g, e, f))))
 
   class-number : (to : Standing) → changeNo mostMarks to (sheetOf n r) c
-      ≡ cond (leb (2 ^ r .marks) c) 2 (cond (is to (r .standing c)) 3 (cond (isEither to && ltb 0 (r .times c)) 12 0))
+      ≡ cond (leb (2 ^ r .marks) c) 2
+      (cond (settles (r .marks) (r .profile) c) 12 (cond (is to (r .standing c)) 3 (cond (isEither to && ltb 0 (r .times c)) 12 0)))
   class-number to =
       below-or c (2 ^ r .marks)
       (λ low. class-below low to ∙ rw (lt-leb (2 ^ r .marks) c low))

@@ -77,6 +77,8 @@ good-read layout {t} {r} b x =
     let k = is-form layout t b x in
     record {
       marks = k .storable .marks;
+      profile = k .storable .profile;
+      obeys = k .storable .obeys;
       standing = λ c e. below-or c (2 ^ r .marks) (λ l. l) (λ l. clash (ap isOut (k .within .standing c l)) e);
       times = k .storable .most-held;
       apart = k .storable .apart;

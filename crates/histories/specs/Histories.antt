@@ -7,8 +7,9 @@ use mathlib.Core.List.{List, [], _∷_, _++_}
 use lib.ListN.{length, drop}
 use lib.Dec.{eqb, leb, ltb}
 use Rattle.boxes.specs.Sums.{sum, only}
+use Rattle.profiles.specs.Profiles.{profileOk, settles}
 use Rattle.sheet.specs.Limits.{mostMarks, mostHeld, marksOk, amountOk}
-use Rattle.sheet.specs.Record.{is, isOut, isEither, Record, withStanding, withTimes, updated, inClass, notOut}
+use Rattle.sheet.specs.Record.{is, isOut, isEither, Record, withStanding, withTimes, updated, inClass, notOut, Obeys}
 use Rattle.sheet.specs.Calls.{didOf}
 use Rattle.sheet.specs.declared.Sheet.{Sheet}
 use Rattle.sheet.specs.declared.Value.{Value}
@@ -16,10 +17,12 @@ use Rattle.lists.specs.Lists.{FirstShortest}
 use Rattle.sheet.specs.declared.Call.{Call}
 use Rattle.sheet.specs.declared.Call.the-variants.{Change, Receive, Withdraw}
 
--- a record that a sheet can have: 1 to 5 marks, every number that is no combination out, at most 4,000,000,000 seconds, and none under an either
--- combination
+-- a record that a sheet can have: 1 to 5 marks, a profile that is not faulty and that is obeyed, every number that is no combination out, at most
+-- 4,000,000,000 seconds, and none under an either combination
 pub record Good (r : Record) : Type 0 where
   pub marks : marksOk mostMarks (r .marks) ≡ true
+  pub profile : profileOk (r .marks) (r .profile) ≡ true
+  pub obeys : Obeys r
   pub standing : (c : ℕ) → isOut (r .standing c) ≡ false → c < 2 ^ r .marks
   pub times : sum (2 ^ r .marks) (r .times) ≤ mostHeld
   pub apart : (c : ℕ) → isEither (r .standing c) ≡ true → r .times c ≡ 0
@@ -27,7 +30,10 @@ pub record Good (r : Record) : Type 0 where
 -- the number of a call, from the record alone: 7 never comes
 abbrev pub numberOf : Record → Call → ℕ
 numberOf r (Change to c) =
-    cond (leb (2 ^ r .marks) c) 2 (cond (is to (r .standing c)) 3 (cond (isEither to && ltb 0 (r .times c)) 12 0))
+    cond (leb (2 ^ r .marks) c) 2
+    (cond (settles (r .marks) (r .profile) c) 12
+    (cond (is to (r .standing c)) 3
+    (cond (isEither to && ltb 0 (r .times c)) 12 0)))
 numberOf r (Receive c d) =
     cond (leb (2 ^ r .marks) c) 2
     (cond (not (amountOk d)) 4
