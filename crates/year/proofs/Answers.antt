@@ -7,7 +7,7 @@ use native.Mathlib.Omega.{arith}
 use lib.Dec.{eqb}
 use Rattle.ground.proofs.Cases.{if, clash}
 use Rattle.dates.specs.declared.date.Date.{Date}
-use Rattle.sheet.specs.Record.{NoneEither, opened}
+use Rattle.sheet.specs.Record.{opened}
 use Rattle.sheet.specs.declared.Call.{Call}
 use Rattle.histories.specs.Histories.{numberOf, afterAll}
 use Rattle.machine.specs.Rows.{Row}
@@ -19,7 +19,7 @@ use Rattle.lines.specs.declared.Order.the-variants.{Make}
 use Rattle.lines.specs.Words.{Says, said}
 use Rattle.desk.specs.Heard as desk
 use Rattle.desk.specs.Prints.{firstNumber}
-use Rattle.desk.proofs.Answers.{after-plain, call-seen, shut-seen}
+use Rattle.desk.proofs.Answers.{Plain, opened-plain, after-plain, call-seen, shut-seen}
 use Rattle.year_lines.specs.Slips.{RowAsks, plain, dated as on-day}
 use Rattle.bookings.specs.Bookings.{undated, on, History, calls, any, recordNow, lastDate, dateOk, bookingNumber}
 use Rattle.bookings.proofs.Sequences.{marks-after}
@@ -32,7 +32,7 @@ or-more true b c e = refl
 or-more false true c e = refl
 or-more false false c e = clash e refl
 
--- the record of a history is one of the desk's: no combination is either
+-- the record of a history is one of the desk's: no combination is either, and there is no profile
 
 says-now : (h : History) {line : List ℕ} {c : Call} {f : Form} → Says (h .marks) line (Make c f) → Says (recordNow h .marks) line (Make c f)
 says-now h {line} {c} {f} s = subst (λ (m : ℕ). Says m line (Make c f)) (sym (marks-after (opened (h .marks)) (calls any (h .bookings)))) s
@@ -40,33 +40,33 @@ says-now h {line} {c} {f} s = subst (λ (m : ℕ). Says m line (Make c f)) (sym 
 abbrev pub PlainIn : State → Type 0
 PlainIn first = Unit {0}
 PlainIn (named y) = Unit {0}
-PlainIn (going b h) = NoneEither (recordNow h)
-PlainIn (over h) = NoneEither (recordNow h)
+PlainIn (going b h) = Plain (recordNow h)
+PlainIn (over h) = Plain (recordNow h)
 
 pub plain-step : {k : ℕ} {s t : State} {row : Row} {text : List ℕ} → Step k s row t text → PlainIn s → PlainIn t
 unfolding calls afterAll
 plain-step (names w) p = tt
-plain-step (nameless w) p = λ c. refl
-plain-step (opens w e) p = λ c. refl
-plain-step (shut w n) p = λ c. refl
-plain-step (stock {h = h} {c = c} (RowAsks.read (plain n (said s)))) p = subst NoneEither (sym (record-undated h c)) (after-plain (recordNow h) p (says-now h s))
+plain-step (nameless w) p = opened-plain _
+plain-step (opens w e) p = opened-plain _
+plain-step (shut w n) p = opened-plain _
+plain-step (stock {h = h} {c = c} (RowAsks.read (plain n (said s)))) p = subst Plain (sym (record-undated h c)) (after-plain (recordNow h) p (says-now h s))
 plain-step (late w) p = p
-plain-step (dated {h = h} {d = d} {c = c} (RowAsks.read (on-day s))) p = record-on h d c NoneEither p (after-plain (recordNow h) p (says-now h (s .call)))
+plain-step (dated {h = h} {d = d} {c = c} (RowAsks.read (on-day s))) p = record-on h d c Plain p (after-plain (recordNow h) p (says-now h (s .call)))
 plain-step (unread w) p = p
 plain-step (ended w) p = p
 plain-step Step.silent p = p
 
-call-heard : (h : History) {line : List ℕ} {c : Call} {f : Form} → NoneEither (recordNow h) → Says (h .marks) line (Make c f)
+call-heard : (h : History) {line : List ℕ} {c : Call} {f : Form} → Plain (recordNow h) → Says (h .marks) line (Make c f)
     → (eqb (numberOf (recordNow h) c) 0 || inLaterLine (numberOf (recordNow h) c)) ≡ true
 call-heard h {line} {c} {f} p s =
     let n = numberOf (recordNow h) c in
     or-more (eqb n 0) (desk.inLaterLine n) (eqb n 11) (call-seen (recordNow h) p (says-now h s))
 
-date-heard : (h : History) {line : List ℕ} (d : Date) {c : Call} {f : Form} → NoneEither (recordNow h) → Says (h .marks) line (Make c f)
+date-heard : (h : History) {line : List ℕ} (d : Date) {c : Call} {f : Form} → Plain (recordNow h) → Says (h .marks) line (Make c f)
     → (eqb (bookingNumber h (on d c)) 0 || inLaterLine (bookingNumber h (on d c))) ≡ true
 date-heard h d p s = if (dateOk (h .year) (lastDate h) d) (λ e. rw e (call-heard h p s)) (λ e. rw e refl)
 
-pub line-seen : {k : ℕ} {b : Bool} {h : History} {row : Row} {t : State} {text : List ℕ} → NoneEither (recordNow h) → Step k (going b h) row t text
+pub line-seen : {k : ℕ} {b : Bool} {h : History} {row : Row} {t : State} {text : List ℕ} → Plain (recordNow h) → Step k (going b h) row t text
     → Hears IsPage k inLaterLine text
 line-seen {k} {h = h} p (stock {c = c} (RowAsks.read (plain n (said s)))) = spoken-heard k (bookingNumber h (undated c)) inLaterLine (call-heard h p s)
 line-seen p (late w) = refused 10 refl
