@@ -9,4 +9,5 @@ pub mod Model
 pub mod Known
 pub mod Pottosin
 pub mod Class
+pub mod Needed
 pub mod Compare
