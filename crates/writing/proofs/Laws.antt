@@ -1,8 +1,8 @@
--- Bytes and listed combinations, one at a time, as the loops put them; the form from its four pieces.
+-- Bytes and listed combinations, one at a time, as the loops put them; the form from its five pieces.
 use Prim.Native.Nat.{ℕ, zero, suc, _+_, _-_, _*_, _/_, _%_, _^_, _≤_, _<_}
 use mathlib.Core.Path.{_≡_, refl, sym, ap, ap₂, _∙_, subst}
 use mathlib.Core.Bool.{Bool, true, false, cond, _&&_}
-use mathlib.Core.List.{List, [], _∷_, _++_, append-assoc, append-nil}
+use mathlib.Core.List.{List, [], _∷_, _++_, append-assoc}
 use native.Mathlib.Nat.{sub-zero, zero-add}
 use native.Mathlib.Numerals.{add-one}
 use native.Mathlib.Omega.{arith}
@@ -25,7 +25,7 @@ use Rattle.sheet.specs.declared.Sheet.{Sheet}
 use Rattle.sheet.proofs.Opening.{combinations-fit}
 use Rattle.stored.specs.Sections.{bytesBehind, standsIn}
 use Rattle.stored.specs.Parts.{Neither}
-use Rattle.stored.specs.Form.{bytes, listed, entryOf, section, formBy, form}
+use Rattle.stored.specs.Form.{bytes, listed, entryOf, section, profileBytes, formBy, form}
 use Rattle.stored.specs.Answers.{Writes, written}
 use Rattle.stored.specs.declared.Section.{Section}
 use Rattle.stored.specs.declared.Section.the-variants.{Class, Either, Held}
@@ -190,52 +190,64 @@ module _ {most : ℕ} (u : Sheet) (ready : Ready most u) where
     pub either-told : Told u Either eithers
     unfolding bytes
     either-told = record {
-      stands = λ c l. rw (lt-ltb c (2 ^ u .marks) l, either .each c l) (either-own _ _ (ready .class .tells c l));
+      stands = λ c l. rw (lt-ltb c (2 ^ u .marks) l, either .each c l) (either-own _ _ (ready .class .counts .tells c l));
       text = λ c l. refl;
     }
 
   pub held-told : {times : List ℕ} → Owns (u .marks) (u .held) times → Told u Held times
   held-told held = record { stands = λ c l. ap (ltb 0) (held .each c l); text = λ c l. ap (λ (x : ℕ). c ∷ bytes 4 x) (held .each c l) }
 
--- the form from its four pieces, and its length from the three counts
+-- the form from its five pieces, and its length from the three counts and the profile
 module _ {u : Sheet} {class eithers times : List ℕ} (tc : Told u Class class) (te : Told u Either eithers) (th : Told u Held times) where
   abbrev pub pieces : List ℕ
-  pieces = (((u .marks ∷ []) ++ sectionIn Class (u .marks) class) ++ sectionIn Either (u .marks) eithers) ++ sectionIn Held (u .marks) times
+  pieces =
+      ((((u .marks ∷ []) ++ sectionIn Class (u .marks) class) ++ sectionIn Either (u .marks) eithers) ++ sectionIn Held (u .marks) times) ++ profileBytes (u .profile)
 
   pub pieces-form : pieces ≡ form (recordOf u)
   unfolding formBy
   pieces-form =
+      let a = sectionIn Class (u .marks) class in
+      let e = sectionIn Either (u .marks) eithers in
+      let b = sectionIn Held (u .marks) times in
+      let p = profileBytes (u .profile) in
       ap (λ (l : List ℕ). u .marks ∷ l)
-      (append-assoc (sectionIn Class (u .marks) class) (sectionIn Either (u .marks) eithers) (sectionIn Held (u .marks) times)
+      (append-assoc (a ++ e) b p ∙ append-assoc a e (b ++ p)
       ∙ ap₂ (λ (x y : List ℕ). x ++ y) (section-told tc)
-      (ap₂ (λ (x y : List ℕ). x ++ y) (section-told te) (section-told th ∙ sym (append-nil (section Held (recordOf u))))))
+      (ap₂ (λ (x y : List ℕ). x ++ y) (section-told te) (ap (λ (x : List ℕ). x ++ p) (section-told th))))
 
-  pub length-told : length (form (recordOf u)) ≡ 7 + countIn (u .marks) class + countIn (u .marks) eithers + countIn (u .marks) times * 5
+  pub length-told : length (form (recordOf u)) ≡ 7 + countIn (u .marks) class + countIn (u .marks) eithers + countIn (u .marks) times * 5 + length (profileBytes (u .profile))
   length-told = omega (arith, form-length (recordOf u), count-told tc, count-told te, count-told th)
 
   -- they fill it
-  pub pieces-length : length (form (recordOf u)) ≡ 1 + length (sectionIn Class (u .marks) class) + length (sectionIn Either (u .marks) eithers) + length (sectionIn Held (u .marks) times)
-  pieces-length = omega (
-    arith,
-    ap length pieces-form,
-    length-append (((u .marks ∷ []) ++ sectionIn Class (u .marks) class) ++ sectionIn Either (u .marks) eithers) (sectionIn Held (u .marks) times),
-    length-append ((u .marks ∷ []) ++ sectionIn Class (u .marks) class) (sectionIn Either (u .marks) eithers),
-    length-append (u .marks ∷ []) (sectionIn Class (u .marks) class),
-  )
+  pub pieces-length : length (form (recordOf u))
+      ≡ 1 + length (sectionIn Class (u .marks) class) + length (sectionIn Either (u .marks) eithers) + length (sectionIn Held (u .marks) times) + length (profileBytes (u .profile))
+  pieces-length =
+      let first = (u .marks ∷ []) ++ sectionIn Class (u .marks) class in
+      let second = first ++ sectionIn Either (u .marks) eithers in
+      omega (
+        arith,
+        ap length pieces-form,
+        length-append (second ++ sectionIn Held (u .marks) times) (profileBytes (u .profile)),
+        length-append second (sectionIn Held (u .marks) times),
+        length-append first (sectionIn Either (u .marks) eithers),
+        length-append (u .marks ∷ []) (sectionIn Class (u .marks) class),
+      )
 
   -- a form whose pieces were put is written
-  pub pieces-written : {most : ℕ} {out o₁ o₂ o₃ o₄ : List ℕ} {p₁ p₂ p₃ p₄ : ℕ} → Ready most u → length (form (recordOf u)) ≤ length out → Wrote out 0 (u .marks ∷ []) p₁ o₁
+  pub pieces-written : {most : ℕ} {out o₁ o₂ o₃ o₄ o₅ : List ℕ} {p₁ p₂ p₃ p₄ p₅ : ℕ} → Ready most u → length (form (recordOf u)) ≤ length out → Wrote out 0 (u .marks ∷ []) p₁ o₁
       → Wrote o₁ p₁ (sectionIn Class (u .marks) class) p₂ o₂ → Wrote o₂ p₂ (sectionIn Either (u .marks) eithers) p₃ o₃ → Wrote o₃ p₃ (sectionIn Held (u .marks) times) p₄ o₄
-      → Writes most u out (record { number = 0; value = p₄ }) o₄
+      → Wrote o₄ p₄ (profileBytes (u .profile)) p₅ o₅ → Writes most u out (record { number = 0; value = p₅ }) o₅
   unfolding laid
-  pieces-written {most} {out} {o₄ = o₄} {p₄ = p₄} ready room w₁ w₂ w₃ w₄ =
+  pieces-written {most} {out} {o₅ = o₅} {p₅ = p₅} ready room w₁ w₂ w₃ w₄ w₅ =
       let t = form (recordOf u) in
       let first = (u .marks ∷ []) ++ sectionIn Class (u .marks) class in
+      let second = first ++ sectionIn Either (u .marks) eithers in
       let e₁ = length-append (u .marks ∷ []) (sectionIn Class (u .marks) class) in
       let e₂ = length-append first (sectionIn Either (u .marks) eithers) in
+      let e₃ = length-append second (sectionIn Held (u .marks) times) in
       let fits = pieces-length in
-      let w = wrote-text pieces-form (wrote-then (wrote-then (wrote-then w₁ w₂ (omega arith)) w₃ (omega arith)) w₄ (omega arith)) in
-      let e : p₄ ≡ length t = omega (arith, w .place) in
-      let q : o₄ ≡ t ++ drop (length t) out = w .area ∙ ap (λ (k : ℕ). t ++ drop k out) (zero-add (length t)) in
-      subst (λ (k : ℕ). Writes most u out (record { number = 0; value = k }) o₄) (sym e)
+      let w = wrote-text pieces-form (wrote-then (wrote-then (wrote-then (wrote-then w₁ w₂ (omega arith)) w₃ (omega arith)) w₄ (omega arith)) w₅ (omega arith)) in
+      let e : p₅ ≡ length t = omega (arith, w .place) in
+      let q : o₅ ≡ t ++ drop (length t) out = w .area ∙ ap (λ (k : ℕ). t ++ drop k out) (zero-add (length t)) in
+      subst (λ (k : ℕ). Writes most u out (record { number = 0; value = k }) o₅) (sym e)
       (subst (λ (l : List ℕ). Writes most u out (record { number = 0; value = length t }) l) (sym q) (written ready room))

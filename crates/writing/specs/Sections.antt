@@ -7,6 +7,8 @@ use mathlib.Core.List.{List, [], _∷_, _++_}
 use lib.Dec.{ltb}
 use lib.ListN.{length}
 use Rattle.tables.specs.Tables.{entry, own}
+use Rattle.profiles.specs.declared.Profile.{Profile}
+use Rattle.profiles.specs.declared.Profile.the-variants.{None, One, Two}
 use Rattle.sheet.specs.Sound.{sizeOf}
 use Rattle.stored.specs.Sections.{bytesBehind}
 use Rattle.stored.specs.Form.{bytes, listed}
@@ -31,3 +33,9 @@ sectionIn s m has = bytes 2 (countIn m has) ++ listIn (bytesBehind s) m has
 pub record Owns (m : ℕ) (t has : List ℕ) : Type 0 where
   pub long : length has ≡ 32
   pub each : (c : ℕ) → c < 2 ^ m → entry has c ≡ own m t c
+
+-- each group of a profile is a byte
+abbrev pub GroupsFit : Profile → Type 0
+GroupsFit None = Unit {0}
+GroupsFit (One g) = g < 256
+GroupsFit (Two g h) = (g < 256) × (h < 256)

@@ -5,9 +5,10 @@ ghost use lib.ListN.{length};
 ghost use Rattle.ground.specs.Areas.{Wrote};
 ghost use Rattle.sheet.specs.Limits.{mostMarks, entries};
 ghost use Rattle.sheet.specs.Sound.{Ready};
-ghost use Rattle.stored.specs.Form.{bytes};
+ghost use Rattle.stored.specs.Form.{bytes, profileBytes};
 ghost use Rattle.stored.specs.Answers.{Writes};
-ghost use Rattle.writing.specs.Sections.{entryText, listIn, countIn, sectionIn, Owns};
+ghost use Rattle.writing.specs.Sections.{entryText, listIn, countIn, sectionIn, Owns, GroupsFit};
+use profiles::Profile;
 use sheet::Sheet;
 use sheet::Value;
 use stored::Section;
@@ -86,6 +87,37 @@ fn put_section(
     put_list(out, first, m, has, section.bytes_behind())
 }
 
+// How many bytes a profile has.
+fn profile_size(profile: Profile) -> u64
+    ensures { λ r. ⌜ (r ≡ length (profileBytes profile)) × (r ≤ 4) ⌝ }
+{
+    match profile {
+        Profile::None => 0,
+        Profile::One(g) => 3,
+        Profile::Two(g, h) => 4,
+    }
+}
+
+// A profile: how many groups it has, and each in one byte.
+fn put_profile(out: &mut [u8], at: usize, profile: Profile) -> usize
+    requires { ⌜ GroupsFit profile ⌝ }
+    requires { ⌜ at + length (profileBytes profile) ≤ length (now out) ⌝ }
+    ensures { λ r. ⌜ Wrote (now (out .entry)) at (profileBytes profile) r (now (out .exit)) ⌝ }
+{
+    match profile {
+        Profile::None => at,
+        Profile::One(g) => {
+            let first = put_bytes(out, at, 2, 1);
+            ground::put_byte(out, first, g as u8)
+        }
+        Profile::Two(g, h) => {
+            let first = put_bytes(out, at, 2, 2);
+            let second = ground::put_byte(out, first, g as u8);
+            ground::put_byte(out, second, h as u8)
+        }
+    }
+}
+
 // What each combination has of its own in a table.
 fn owns(m: usize, t: &[u32]) -> [u32; 32]
     requires { ⌜ m ≤ mostMarks ⌝ }
@@ -109,13 +141,14 @@ pub fn write_sound(sheet: Sheet, out: &mut [u8]) -> Value
     let outside = sheet.outside;
     let either = sheet.either;
     let held = sheet.held;
+    let profile = sheet.profile;
     let eithers = owns(m, &either);
     let class = stored::neither(&owns(m, &outside), &eithers);
     let times = owns(m, &held);
     let a = size(m, &class);
     let e = size(m, &eithers);
     let b = size(m, &times);
-    if (out.len() as u64) < 7 + a + e + b * 5 {
+    if (out.len() as u64) < 7 + a + e + b * 5 + profile_size(profile) {
         return Value {
             number: 5,
             value: 0,
@@ -124,7 +157,8 @@ pub fn write_sound(sheet: Sheet, out: &mut [u8]) -> Value
     let first = ground::put_byte(out, 0, m as u8);
     let second = put_section(out, first, m, &class, Section::Class, a);
     let third = put_section(out, second, m, &eithers, Section::Either, e);
-    let end = put_section(out, third, m, &times, Section::Held, b);
+    let fourth = put_section(out, third, m, &times, Section::Held, b);
+    let end = put_profile(out, fourth, profile);
     Value {
         number: 0,
         value: end as u64,
