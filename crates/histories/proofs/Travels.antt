@@ -19,7 +19,7 @@ use Rattle.stored.specs.declared.Layout.{Layout}
 use Rattle.stored.specs.declared.Layout.the-variants.{Today}
 use Rattle.stored.specs.Form.{form}
 use Rattle.stored.specs.declared.Read.{Read}
-use Rattle.stored.proofs.IsForm.{is-form}
+use Rattle.stored.proofs.IsForm.{Storable, is-form}
 use Rattle.stored.proofs.Trips.{form-same, told-agrees, read-good, travels}
 use Rattle.histories.specs.Histories.{Good, afterAll, numbersOf}
 use Rattle.histories.specs.Travels.{Event, change, travel, Happens, changed, stayed, travelled, Lives, rests, lives, eventNumber, afterEvent}
@@ -69,6 +69,10 @@ from r g q (lives {u = u} {e = e} {n = n} h l) =
 pub lives-afresh : (r : Record) → Good r → {es : List Event} {ns : List ℕ} {z : Sheet} → Lives (sheetOf entries r) es ns z
     → (ns ≡ numbersOf eventNumber afterEvent r es) × (z ≡ sheetOf entries (afterAll afterEvent r es))
 lives-afresh r g l = from r g refl l
+
+-- a record that a sheet can have can be stored
+pub good-storable : {r : Record} → Good r → Storable mostMarks r
+good-storable g = record { marks = g .marks; profile = g .profile; obeys = g .obeys; most-held = g .times; apart = g .apart }
 
 -- any other sheet that is read begins its history with what was read
 

@@ -21,16 +21,20 @@ use Rattle.sheet.specs.declared.Standing.the-variants.{Either}
 use Rattle.sheet.specs.declared.Answer.{Answer}
 use Rattle.sheet.specs.declared.Value.{Value}
 
--- opening: 1 if marks are not 1 to the most; a refused opening gives the sheet of an opened one-mark class
+-- a refused opening gives the sheet of an opened one-mark class
+abbrev pub refusedOpening : ℕ → ℕ → Answer
+refusedOpening n number = record { number = number; sheet = sheetOf n (opened 1) }
+
+-- opening: 1 if marks are not 1 to the most
 abbrev pub openOf : ℕ → ℕ → ℕ → Answer
-openOf most n m = cond (marksOk most m) (record { number = 0; sheet = sheetOf n (opened m) }) (record { number = 1; sheet = sheetOf n (opened 1) })
+openOf most n m = cond (marksOk most m) (record { number = 0; sheet = sheetOf n (opened m) }) (refusedOpening n 1)
 
 -- opening under a profile of these groups: 1 as before, then 13 if it is faulty
 abbrev pub openUnderOf : ℕ → ℕ → ℕ → List ℕ → Answer
 openUnderOf most n m groups =
     cond (marksOk most m)
-    (cond (namesOk m groups) (record { number = 0; sheet = sheetOf n (openedUnder m (profileOf groups)) }) (record { number = 13; sheet = sheetOf n (opened 1) }))
-    (record { number = 1; sheet = sheetOf n (opened 1) })
+    (cond (namesOk m groups) (record { number = 0; sheet = sheetOf n (openedUnder m (profileOf groups)) }) (refusedOpening n 13))
+    (refusedOpening n 1)
 
 -- A call is a move at one combination: in the boxes that contain it each table stays, or has some more, or some less.
 
@@ -80,8 +84,7 @@ countsFit to s c =
 unfoldable pub changeNo : ℕ → Standing → Sheet → ℕ → ℕ
 changeNo most to s c =
     cond (not (marksOk most (s .marks))) 7
-    (cond (leb (2 ^ s .marks) c) 2
-    (cond (settles (s .marks) (s .profile) c) 12
+    (cond (leb (2 ^ s .marks) c) 2 (cond (settles (s .marks) (s .profile) c) 12
     (cond (ltb 1 (ownIn outside-counts s c + ownIn either-counts s c)) 7
     (cond (tells to (ownIn outside-counts s c) (ownIn either-counts s c)) 3
     (cond (isEither to && ltb 0 (ownIn held-seconds s c)) 12

@@ -8,7 +8,7 @@ ghost use Rattle.tables.specs.Tables.{entry, afresh};
 ghost use Rattle.profiles.specs.Profiles.{breaks};
 ghost use Rattle.sheet.specs.Limits.{mostMarks, entries, mostHeld, mostAmount};
 ghost use Rattle.sheet.specs.Record.{sheetFrom, sheetOf, openedUnder, opened, inClass};
-ghost use Rattle.sheet.specs.Calls.{openOf, openUnderOf, movedSheet, didOf, ClassSize};
+ghost use Rattle.sheet.specs.Calls.{refusedOpening, openOf, openUnderOf, movedSheet, didOf, ClassSize};
 ghost use Rattle.sheet.specs.Parts.{Accepted, Addable};
 ghost use Rattle.sheet.specs.Sound.{ClassReady, Ready, recordOf, sizeOf};
 ghost use Rattle.sheet.specs.declared.Call.the-variants.{Change, Receive, Withdraw};
@@ -129,6 +129,16 @@ impl Sheet {
         Sheet::opened_under(m, Profile::None)
     }
 
+    // The answer of a refused opening: its number, and the sheet of an opened one-mark class.
+    fn refused_opening(number: u64) -> Answer
+        ensures { λ r. ⌜ r ≡ refusedOpening entries number ⌝ }
+    {
+        Answer {
+            number,
+            sheet: Sheet::opened(1),
+        }
+    }
+
     // A sheet of so many marks, with every combination out and nothing held.
     pub fn open(marks: usize) -> Answer
         ensures { λ r. ⌜ r ≡ openOf mostMarks entries marks ⌝ }
@@ -139,10 +149,7 @@ impl Sheet {
                 sheet: Sheet::opened(marks),
             };
         }
-        Answer {
-            number: 1,
-            sheet: Sheet::opened(1),
-        }
+        Sheet::refused_opening(1)
     }
 
     // The sheet of a class of m marks that is opened under a profile.
@@ -167,16 +174,10 @@ impl Sheet {
         ensures { λ r. ⌜ r ≡ openUnderOf mostMarks entries marks (now (groups .entry)) ⌝ }
     {
         if !numbers::marks_ok(marks) {
-            return Answer {
-                number: 1,
-                sheet: Sheet::opened(1),
-            };
+            return Sheet::refused_opening(1);
         }
         if !profiles::names_ok(marks, groups) {
-            return Answer {
-                number: 13,
-                sheet: Sheet::opened(1),
-            };
+            return Sheet::refused_opening(13);
         }
         Answer {
             number: 0,

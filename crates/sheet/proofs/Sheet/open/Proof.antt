@@ -17,12 +17,8 @@ opened-requires c κs = marks-most mostMarks _ (sym (c .before .marks-ok .ensure
 returns : tie.Need-returns
 returns c = ap (λ (s : Sheet). record { number = 0; sheet = s }) (c .opened .ensures) ∙ open-done _ entries _ (sym (c .before .before .marks-ok .ensures) ∙ c .before .if1 .taken)
 
-opened-requires-2 : tie.Need-opened-requires-2
-opened-requires-2 c κs = search needs
-
 returns-2 : tie.Need-returns-2
-returns-2 c = ap (λ (s : Sheet). record { number = 1; sheet = s }) (c .opened2 .ensures) ∙ open-refused _ entries _ (sym (c .before .before .marks-ok .ensures) ∙ c .before .if1 .left)
+returns-2 c = c .refused-opening .ensures ∙ open-refused _ entries _ (sym (c .before .before .marks-ok .ensures) ∙ c .before .if1 .left)
 
 pub open-spec : {M : Type 1} → statement M
-open-spec =
-    tie.close (tie.spec marks-ok-requires opened-requires returns opened-requires-2 returns-2)
+open-spec = tie.close (tie.spec marks-ok-requires opened-requires returns (λ c κs. search needs) returns-2)

@@ -18,7 +18,7 @@ marks c = sym (c .before .marks-ok .ensures) ∙ not-false _ (c .if1 .left)
 
 returns : tie.Need-returns
 returns c =
-    ap (λ (s : Sheet). record { number = 1; sheet = s }) (c .opened .ensures)
+    c .refused-opening .ensures
     ∙ open-under-refused _ entries _ (c .before .before .before .before .args .groups .now) (sym (c .before .before .marks-ok .ensures) ∙ not-true _ (c .before .if1 .taken))
 
 names-ok-requires : tie.Need-names-ok-requires
@@ -27,7 +27,7 @@ names-ok-requires c κs = omega (arith, marks-most mostMarks _ (marks c))
 returns-2 : tie.Need-returns-2
 returns-2 c =
     let n = c .before .before in
-    ap (λ (s : Sheet). record { number = 13; sheet = s }) (c .opened2 .ensures)
+    c .refused-opening2 .ensures
     ∙ open-under-faulty _ entries _ (n .before .before .before .before .args .groups .now) (marks (n .before)) (sym (n .names-ok .ensures) ∙ not-true _ (c .before .if2 .taken))
 
 opened-under-requires : tie.Need-opened-under-requires
