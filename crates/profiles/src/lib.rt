@@ -15,12 +15,10 @@ fn common(m: usize, a: usize, b: usize) -> usize
     ensures { λ r. ⌜ r ≡ common m a b ⌝ }
 {
     let mut n: usize = 0;
-    let mut x = a;
-    let mut y = b;
+    let mut both = a & b;
     for i in 0..m {
-        n += (x % 2) * (y % 2);
-        x = x / 2;
-        y = y / 2;
+        n += both % 2;
+        both = both / 2;
     }
     n
 }
