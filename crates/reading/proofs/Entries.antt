@@ -13,8 +13,8 @@ use Rattle.ground.proofs.Cases.{below-or, same-or, clash}
 use Rattle.tables.specs.Tables.{entry}
 use Rattle.sheet.specs.Limits.{mostMarks, mostHeld}
 use Rattle.sheet.specs.Record.{Record}
-use Rattle.stored.specs.Sections.{bytesBehind, takes, heldIn, added}
-use Rattle.stored.specs.Fields.{Next, due, count, combination, behind, sectionsDue, entriesDue, judge, refused, Run}
+use Rattle.stored.specs.Sections.{Rest, bytesBehind, takes, heldIn, added}
+use Rattle.stored.specs.Fields.{Next, due, count, combination, behind, restDue, entriesDue, judge, refused, Run}
 use Rattle.stored.specs.declared.Section.{Section}
 use Rattle.stored.proofs.Sections.{held-more}
 use Rattle.reading.specs.Parts.{FieldRead, Leads, least, hasIn, withOwn, ReadBefore, Got, PartRead, bad, good}
@@ -24,16 +24,16 @@ use Rattle.reading.proofs.Offsets.{start as at-start, then, then-run, f
 use Rattle.reading.proofs.Own.{own-marks, own-start, set-here, set-other, own-added, own-none, own-takes, may-stand, may-not, own-most}
 
 -- a combination is due where some are left, and the next section where none is
-entries-some : (s : Section) (rest : List Section) (r : Record) (left low : ℕ) → 0 < left → entriesDue s rest r left low ≡ due (combination s rest r (left - 1) low)
+entries-some : (s : Section) (rest : Rest) (r : Record) (left low : ℕ) → 0 < left → entriesDue s rest r left low ≡ due (combination s rest r (left - 1) low)
 entries-some s rest r zero low h = absurd (omega arith)
 entries-some s rest r (suc k) low h = ap (λ (j : ℕ). due (combination s rest r j low)) (sym (sub-one (suc k)))
 
-pub entries-none : (s : Section) (rest : List Section) (r : Record) (left low : ℕ) → left ≡ 0 → entriesDue s rest r left low ≡ sectionsDue rest r
+pub entries-none : (s : Section) (rest : Rest) (r : Record) (left low : ℕ) → left ≡ 0 → entriesDue s rest r left low ≡ restDue rest r
 entries-none s rest r zero low e = refl
 entries-none s rest r (suc k) low e = absurd (omega arith)
 
 -- a count, with the section's combinations behind it
-module _ {t : List ℕ} {at m : ℕ} {f : Field} (s : Section) (rest : List Section) (r : Record) (em : r .marks ≡ m) (v : FieldRead t at 2 0 (2 ^ m) f) where
+module _ {t : List ℕ} {at m : ℕ} {f : Field} (s : Section) (rest : Rest) (r : Record) (em : r .marks ≡ m) (v : FieldRead t at 2 0 (2 ^ m) f) where
   same-size : 2 ^ r .marks ≡ 2 ^ m
   same-size = ap (λ (x : ℕ). 2 ^ x) em
 
@@ -50,7 +50,7 @@ module _ {t : List ℕ} {at m : ℕ} {f : Field} (s : Section) (rest : List Sect
       (λ x small n. below-or (2 ^ r .marks) x (λ q. rw (lt-leb x (2 ^ r .marks) q)) (λ q. absurd (n (omega arith) (omega (arith, same-size)))))
 
 -- a combination
-module _ {t : List ℕ} {at low m : ℕ} {f : Field} (s : Section) (rest : List Section) (r : Record) (left : ℕ) (some : 0 < left) (em : r .marks ≡ m)
+module _ {t : List ℕ} {at low m : ℕ} {f : Field} (s : Section) (rest : Rest) (r : Record) (left : ℕ) (some : 0 < left) (em : r .marks ≡ m)
     (v : FieldRead t at 1 low (2 ^ m - 1) f) where
   top : (2 ^ r .marks ≡ 2 ^ m) × (1 ≤ 2 ^ m)
   top = (ap (λ (x : ℕ). 2 ^ x) em, one-le-pow m 2 (omega arith))
@@ -82,7 +82,7 @@ module _ {t : List ℕ} {at low m : ℕ} {f : Field} (s : Section) (rest : List 
       (λ q. below-or x (2 ^ r .marks) (λ p. absurd (n q (omega arith))) (λ p. rw (le-leb low x q, le-ltb x (2 ^ r .marks) p)))))
 
 -- the number behind it
-module _ {t : List ℕ} {at sum : ℕ} {f : Field} (s : Section) (rest : List Section) (r : Record) (left c : ℕ) (h : sum ≤ mostHeld) (es : heldIn r ≡ sum)
+module _ {t : List ℕ} {at sum : ℕ} {f : Field} (s : Section) (rest : Rest) (r : Record) (left c : ℕ) (h : sum ≤ mostHeld) (es : heldIn r ≡ sum)
     (v : FieldRead t at (bytesBehind s) (least s) (mostHeld - sum) f) where
   pub behind-taken : f .good ≡ true → Leads t (due (behind s rest r left c)) at (entriesDue s rest (added s r c (f .number)) left (c + 1)) (f .at)
   unfolding judge
@@ -97,7 +97,7 @@ module _ {t : List ℕ} {at sum : ℕ} {f : Field} (s : Section) (rest : List Se
 
 -- What the loop keeps: it stands at the combinations from `low` on, `left` of them, with `sum` seconds so far.
 pub record EntriesReached (t : List ℕ) (s : Section) (m : ℕ) (barred : List ℕ) (n start : ℕ) (own : List ℕ) (at low left sum : ℕ) : Type 0 where
-  pub got : Got t s m barred (λ (rest : List Section) (r : Record). entriesDue s rest r n 0) (λ (rest : List Section) (r : Record). entriesDue s rest r left low) start own at
+  pub got : Got t s m barred (λ (rest : Rest) (r : Record). entriesDue s rest r n 0) (λ (rest : Rest) (r : Record). entriesDue s rest r left low) start own at
   pub clear : (c : ℕ) → low ≤ c → c < 2 ^ m → entry own c ≡ 0
   pub sum-is : (r : Record) → ReadBefore s m barred r → heldIn (withOwn s (entry own) r) ≡ sum
   pub sum-most : sum ≤ mostHeld
@@ -121,7 +121,7 @@ module _ (t : List ℕ) (s : Section) (m : ℕ) (barred : List ℕ) (own : List 
   }
 
 module _ {t : List ℕ} {s : Section} {m : ℕ} {barred : List ℕ} {n start : ℕ} {own : List ℕ} {at low left sum : ℕ} (v : EntriesReached t s m barred n start own at low left sum) where
-  pub reached-end : left ≡ 0 → Got t s m barred (λ (rest : List Section) (r : Record). entriesDue s rest r n 0) sectionsDue start own at
+  pub reached-end : left ≡ 0 → Got t s m barred (λ (rest : Rest) (r : Record). entriesDue s rest r n 0) restDue start own at
   reached-end e = record {
     inside = v .got .inside;
     long = v .got .long;
@@ -132,7 +132,7 @@ module _ {t : List ℕ} {s : Section} {m : ℕ} {barred : List ℕ} {n start : �
 
   module _ {f : Field} (some : 0 < left) (read : FieldRead t at 1 low (2 ^ m - 1) f) where
     -- a wrong combination
-    pub entry-wrong : f .good ≡ false → (rest : List Section) (r : Record) → ReadBefore s m barred r
+    pub entry-wrong : f .good ≡ false → (rest : Rest) (r : Record) → ReadBefore s m barred r
         → Run mostMarks (entriesDue s rest r n 0) start (drop start t) (refused 10 (f .at))
     entry-wrong g rest r b =
         then-run (v .got .leads rest r b) (combination-wrong s rest (withOwn s (entry own) r) left some (own-marks s (entry own) r ∙ b .marks) read g (v .got .inside))
@@ -146,7 +146,7 @@ module _ {t : List ℕ} {s : Section} {m : ℕ} {barred : List ℕ} {n start : �
           let c-m : f .number < 2 ^ m = omega arith in
           own-takes (entry own) r (f .number) (v .clear (f .number) (k .1) c-m) s ∙ b .taken (f .number) c-m
 
-      pub entry-barred : (entry barred (f .number) ≡ 0 → ⊥) → (rest : List Section) (r : Record) → ReadBefore s m barred r
+      pub entry-barred : (entry barred (f .number) ≡ 0 → ⊥) → (rest : Rest) (r : Record) → ReadBefore s m barred r
           → Run mostMarks (entriesDue s rest r n 0) start (drop start t) (refused 10 at)
       entry-barred bar rest r b =
           then-run (v .got .leads rest r b)
@@ -154,13 +154,13 @@ module _ {t : List ℕ} {s : Section} {m : ℕ} {barred : List ℕ} {n start : �
 
       module _ {x : Field} (ok : entry barred (f .number) ≡ 0) (next : FieldRead t (f .at) (bytesBehind s) (least s) (mostHeld - sum) x) where
         -- where the number behind it is due
-        to-behind : (rest : List Section) (r : Record) → ReadBefore s m barred r
+        to-behind : (rest : Rest) (r : Record) → ReadBefore s m barred r
             → Leads t (entriesDue s rest r n 0) start (due (behind s rest (withOwn s (entry own) r) (left - 1) (f .number))) (f .at)
         to-behind rest r b =
             then (v .got .leads rest r b)
             (combination-taken s rest (withOwn s (entry own) r) left some (own-marks s (entry own) r ∙ b .marks) read g (taken-by r b ∙ eq-eqb _ 0 ok))
 
-        pub number-wrong : x .good ≡ false → (rest : List Section) (r : Record) → ReadBefore s m barred r
+        pub number-wrong : x .good ≡ false → (rest : Rest) (r : Record) → ReadBefore s m barred r
             → Run mostMarks (entriesDue s rest r n 0) start (drop start t) (refused 10 (x .at))
         number-wrong w rest r b =
             then-run (to-behind rest r b)
@@ -201,22 +201,22 @@ module _ {t : List ℕ} {s : Section} {m : ℕ} {barred : List ℕ} {n start : �
             }
 
 -- a part that is refused at a place
-pub part-stopped : {t : List ℕ} {s : Section} {m start : ℕ} {barred : List ℕ} {from : List Section → Record → Next} {p : Part} (place : ℕ) → (p .good ≡ false) × (p .at ≡ place)
-    → ((rest : List Section) (r : Record) → ReadBefore s m barred r → Run mostMarks (from rest r) start (drop start t) (refused 10 place)) → PartRead t s m barred from start p
+pub part-stopped : {t : List ℕ} {s : Section} {m start : ℕ} {barred : List ℕ} {from : Rest → Record → Next} {p : Part} (place : ℕ) → (p .good ≡ false) × (p .at ≡ place)
+    → ((rest : Rest) (r : Record) → ReadBefore s m barred r → Run mostMarks (from rest r) start (drop start t) (refused 10 place)) → PartRead t s m barred from start p
 part-stopped {p = p} place e w = bad {p = p} (e .0) (λ rest r b. rw (e .1) (w rest r b))
 
 -- a part behind what leads to it
-pub part-after : {t : List ℕ} {s : Section} {m at at₁ : ℕ} {barred : List ℕ} {from from₁ : List Section → Record → Next} {p : Part}
-    → ((rest : List Section) (r : Record) → ReadBefore s m barred r → Leads t (from rest r) at (from₁ rest r) at₁) → PartRead t s m barred from₁ at₁ p → PartRead t s m barred from at p
+pub part-after : {t : List ℕ} {s : Section} {m at at₁ : ℕ} {barred : List ℕ} {from from₁ : Rest → Record → Next} {p : Part}
+    → ((rest : Rest) (r : Record) → ReadBefore s m barred r → Leads t (from rest r) at (from₁ rest r) at₁) → PartRead t s m barred from₁ at₁ p → PartRead t s m barred from at p
 part-after l (bad e w) = bad e (λ rest r b. then-run (l rest r b) (w rest r b))
 part-after l (good e g) = good e (record { inside = g .inside; long = g .long; most = g .most; leads = λ rest r b. then (l rest r b) (g .leads rest r b) })
 
-module _ {t : List ℕ} {s : Section} {m start : ℕ} {barred : List ℕ} {from : List Section → Record → Next} {p : Part} where
-  pub part-bad : PartRead t s m barred from start p → p .good ≡ false → (rest : List Section) (r : Record) → ReadBefore s m barred r
+module _ {t : List ℕ} {s : Section} {m start : ℕ} {barred : List ℕ} {from : Rest → Record → Next} {p : Part} where
+  pub part-bad : PartRead t s m barred from start p → p .good ≡ false → (rest : Rest) (r : Record) → ReadBefore s m barred r
       → Run mostMarks (from rest r) start (drop start t) (refused 10 (p .at))
   part-bad (bad e w) g = w
   part-bad (good e w) g = clash e g
 
-  pub part-good : PartRead t s m barred from start p → p .good ≡ true → Got t s m barred from sectionsDue start (p .own) (p .at)
+  pub part-good : PartRead t s m barred from start p → p .good ≡ true → Got t s m barred from restDue start (p .own) (p .at)
   part-good (bad e w) g = clash g e
   part-good (good e w) g = w

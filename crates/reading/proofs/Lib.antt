@@ -1,4 +1,5 @@
 pub mod Offsets
 pub mod Own
 pub mod Entries
+pub mod Carried
 pub mod Whole

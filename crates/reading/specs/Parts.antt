@@ -7,16 +7,20 @@ use lib.Dec.{eqb, ltb}
 use lib.ListN.{length, take, drop}
 use Rattle.boxes.specs.Sums.{only}
 use Rattle.tables.specs.Tables.{entry}
+use Rattle.profiles.specs.Profiles.{breaks}
+use Rattle.profiles.specs.declared.Profile.{Profile}
+use Rattle.profiles.specs.declared.Profile.the-variants.{None}
 use Rattle.sheet.specs.Limits.{mostMarks, mostHeld}
-use Rattle.sheet.specs.Record.{Record, withStanding, withTimes}
+use Rattle.sheet.specs.Record.{isEither, Record, withStanding, withProfile, withTimes}
 use Rattle.sheet.specs.declared.Standing.the-variants as standing
-use Rattle.stored.specs.Sections.{standsIn, takes, heldIn}
-use Rattle.stored.specs.Fields.{numberIn, Next, due, count, sectionsDue, entriesDue, Outcome, refused, Run}
+use Rattle.stored.specs.Sections.{Rest, standsIn, takes, heldIn}
+use Rattle.stored.specs.Fields.{numberIn, Next, due, count, group, perhaps, complete, end, restDue, entriesDue, groupsDue, Outcome, refused, Run}
 use Rattle.stored.specs.declared.Section.{Section}
 use Rattle.stored.specs.declared.Section.the-variants.{Class, Either, Held}
 use Rattle.stored.specs.declared.Layout.{Layout}
 use Rattle.stored.specs.declared.Layout.the-variants.{First, Today}
 use Rattle.reading.specs.declared.fields.Field.{Field}
+use Rattle.reading.specs.declared.groups.Groups.{Groups}
 use Rattle.reading.specs.declared.sections.Part.{Part}
 
 -- the number in the k bytes at an offset
@@ -65,27 +69,62 @@ pub record ReadBefore (s : Section) (m : ℕ) (barred : List ℕ) (r : Record) :
   pub nothing-held : heldIn r ≡ 0
   pub taken : (c : ℕ) → c < 2 ^ m → takes s r c ≡ eqb (entry barred c) 0
 
--- What was read of a section up to an offset. The run leads there from `from`, whatever was read before it and whichever sections follow.
-pub record Got (t : List ℕ) (s : Section) (m : ℕ) (barred : List ℕ) (from to : List Section → Record → Next) (start : ℕ) (own : List ℕ) (at : ℕ) : Type 0 where
+-- What was read of a section up to an offset. The run leads there from `from`, whatever was read before it and whatever follows.
+pub record Got (t : List ℕ) (s : Section) (m : ℕ) (barred : List ℕ) (from to : Rest → Record → Next) (start : ℕ) (own : List ℕ) (at : ℕ) : Type 0 where
   pub inside : at ≤ length t
   pub long : 2 ^ m ≤ length own
   pub most : (c : ℕ) → c < 2 ^ m → entry own c ≤ mostOwn s
-  pub leads : (rest : List Section) (r : Record) → ReadBefore s m barred r → Leads t (from rest r) start (to rest (withOwn s (entry own) r)) at
+  pub leads : (rest : Rest) (r : Record) → ReadBefore s m barred r → Leads t (from rest r) start (to rest (withOwn s (entry own) r)) at
 
 -- a part of the form: refused with 10 and the place, or read
-pub data PartRead (t : List ℕ) (s : Section) (m : ℕ) (barred : List ℕ) (from : List Section → Record → Next) (start : ℕ) : Part → Type 0 where
-  bad : {p : Part} → p .good ≡ false → ((rest : List Section) (r : Record) → ReadBefore s m barred r → Run mostMarks (from rest r) start (drop start t) (refused 10 (p .at)))
+pub data PartRead (t : List ℕ) (s : Section) (m : ℕ) (barred : List ℕ) (from : Rest → Record → Next) (start : ℕ) : Part → Type 0 where
+  bad : {p : Part} → p .good ≡ false → ((rest : Rest) (r : Record) → ReadBefore s m barred r → Run mostMarks (from rest r) start (drop start t) (refused 10 (p .at)))
       → PartRead t s m barred from start p
-  good : {p : Part} → p .good ≡ true → Got t s m barred from sectionsDue start (p .own) (p .at) → PartRead t s m barred from start p
+  good : {p : Part} → p .good ≡ true → Got t s m barred from restDue start (p .own) (p .at) → PartRead t s m barred from start p
 
 -- the n combinations behind a count, and the whole section
 abbrev pub EntriesRead : List ℕ → Section → ℕ → List ℕ → ℕ → ℕ → Part → Type 0
-EntriesRead t s m barred n start p = PartRead t s m barred (λ (rest : List Section) (r : Record). entriesDue s rest r n 0) start p
+EntriesRead t s m barred n start p = PartRead t s m barred (λ (rest : Rest) (r : Record). entriesDue s rest r n 0) start p
 
 abbrev pub SectionRead : List ℕ → Section → ℕ → List ℕ → ℕ → Part → Type 0
-SectionRead t s m barred start p = PartRead t s m barred (λ (rest : List Section) (r : Record). due (count s rest r)) start p
+SectionRead t s m barred start p = PartRead t s m barred (λ (rest : Rest) (r : Record). due (count s rest r)) start p
 
 -- the either section behind a class of these combinations; 01's layout has none
 abbrev pub EitherRead : List ℕ → Layout → ℕ → List ℕ → ℕ → Part → Type 0
 EitherRead t First m ins start p = (p .good ≡ true) × (p .at ≡ start) × ((c : ℕ) → c < 2 ^ m → entry (p .own) c ≡ 0) × (2 ^ m ≤ length (p .own))
 EitherRead t Today m ins start p = SectionRead t Either m ins start p
+
+-- Some groups: refused with 10 and the place, or read. The run leads from one field to another, whatever record R was read before them; they make its profile.
+pub data Carried (t : List ℕ) (R : Record → Type 0) (from to : Record → Next) (start : ℕ) : Groups → Type 0 where
+  bad : {g : Groups} → g .good ≡ false → ((r : Record) → R r → Run mostMarks (from r) start (drop start t) (refused 10 (g .at))) → Carried t R from to start g
+  good : {g : Groups} → g .good ≡ true → g .at ≤ length t → ((r : Record) → R r → Leads t (from r) start (to (withProfile (g .profile) r)) (g .at)) → Carried t R from to start g
+
+-- a record of m marks with a profile
+pub record With (m : ℕ) (p : Profile) (r : Record) : Type 0 where
+  pub marks : r .marks ≡ m
+  pub profile : r .profile ≡ p
+
+-- a group behind those of a profile, with `left` more behind it; and n groups
+abbrev pub GroupRead : List ℕ → ℕ → Profile → ℕ → Groups → Type 0
+GroupRead t m p at g = (start left : ℕ) → Carried t (With m p) (λ (r : Record). due (group r start left)) (λ (r : Record). groupsDue r start left) at g
+
+abbrev pub GroupsRead : List ℕ → ℕ → ℕ → ℕ → Groups → Type 0
+GroupsRead t m n at g = (start : ℕ) → Carried t (With m None) (λ (r : Record). groupsDue r start n) (λ (r : Record). complete r start) at g
+
+-- each combination that breaks a profile has a number other than 0
+abbrev pub Covered : ℕ → Profile → List ℕ → Type 0
+Covered m p own = (c : ℕ) → c < 2 ^ m → breaks m p c ≡ true → 0 < entry own c
+
+-- what can be read before a profile: none, and `eithers` tells the either combinations
+pub record ProfileBefore (m : ℕ) (eithers : List ℕ) (r : Record) : Type 0 where
+  pub plain : With m None r
+  pub told : (c : ℕ) → c < 2 ^ m → isEither (r .standing c) ≡ ltb 0 (entry eithers c)
+
+-- a profile, or none
+abbrev pub ProfileRead : List ℕ → ℕ → List ℕ → ℕ → Groups → Type 0
+ProfileRead t m eithers at g = Carried t (ProfileBefore m eithers) perhaps end at g
+
+-- behind all sections; 01's layout has none
+abbrev pub EndRead : List ℕ → Layout → ℕ → List ℕ → ℕ → Groups → Type 0
+EndRead t First m eithers start g = (g .good ≡ true) × (g .at ≡ start) × (g .profile ≡ None)
+EndRead t Today m eithers start g = ProfileRead t m eithers start g

@@ -4,11 +4,14 @@ ghost use lib.ListN.{length};
 ghost use Rattle.sheet.specs.Limits.{mostMarks, entries};
 ghost use Rattle.stored.specs.Answers.{ReadsBy, Reads};
 ghost use Rattle.stored.specs.declared.Layout.the-variants.{First};
-ghost use Rattle.reading.specs.Parts.{EitherRead};
+ghost use Rattle.reading.specs.Parts.{EitherRead, EndRead};
 
 mod fields;
+mod groups;
 mod sections;
 
+use groups::Groups;
+use profiles::Profile;
 use sections::Part;
 use sheet::Sheet;
 use stored::Layout;
@@ -34,6 +37,22 @@ fn either_part(t: &[u8], at: usize, m: usize, ins: &[u32; 32], layout: Layout) -
     }
 }
 
+// The profile at an offset, behind all sections; 01's layout has none.
+fn profile_part(t: &[u8], at: usize, m: usize, eithers: &[u32; 32], layout: Layout) -> Groups
+    requires { ⌜ m ≤ mostMarks ⌝ }
+    requires { ⌜ at ≤ length (now t) ⌝ }
+    ensures { λ r. ⌜ EndRead (now (t .entry)) layout m (now (eithers .entry)) at r ⌝ }
+{
+    match layout {
+        Layout::First => Groups {
+            good: true,
+            at,
+            profile: Profile::None,
+        },
+        Layout::Today => groups::read(t, at, m, eithers),
+    }
+}
+
 // Reads a form of a layout: the sheet worked out from what was read, or the number of a refusal with the place.
 fn read_by(bytes: &[u8], layout: Layout) -> Read
     ensures { λ r. ⌜ ReadsBy layout mostMarks entries (now (bytes .entry)) r ⌝ }
@@ -47,31 +66,33 @@ fn read_by(bytes: &[u8], layout: Layout) -> Read
     }
     let none = [0u32; 32];
     let class = sections::read(bytes, 1, m, Section::Class, &none);
-    let second = class.at;
     if !class.good {
-        return Read::refused(10, second);
+        return Read::refused(10, class.at);
     }
     let ins = class.own;
-    let either = either_part(bytes, second, m, &ins, layout);
-    let third = either.at;
+    let either = either_part(bytes, class.at, m, &ins, layout);
     if !either.good {
-        return Read::refused(10, third);
+        return Read::refused(10, either.at);
     }
     let eithers = either.own;
-    let held = sections::read(bytes, third, m, Section::Held, &eithers);
-    let end = held.at;
+    let held = sections::read(bytes, either.at, m, Section::Held, &eithers);
     if !held.good {
-        return Read::refused(10, end);
+        return Read::refused(10, held.at);
     }
-    if end < bytes.len() {
-        return Read::refused(10, end);
+    let groups = profile_part(bytes, held.at, m, &eithers, layout);
+    if !groups.good {
+        return Read::refused(10, groups.at);
+    }
+    if groups.at < bytes.len() {
+        return Read::refused(10, groups.at);
     }
     let outs = stored::neither(&ins, &eithers);
     let times = held.own;
+    let profile = groups.profile;
     Read {
         number: 0,
         place: 0,
-        sheet: Sheet::afresh(m, &outs, &eithers, &times),
+        sheet: Sheet::afresh(m, profile, &outs, &eithers, &times),
     }
 }
 

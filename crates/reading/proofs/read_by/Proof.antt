@@ -1,8 +1,7 @@
 -- Each return is what the run over the fields comes to: it has led behind the marks (`past-marks`), the class (`past-class`), the either combinations
--- (`past-either`) and what is held (`past-held`).
+-- (`past-either`), what is held (`past-held`) and the profile (`past-profile`).
 use Prim.Native.Nat.{ℕ, _≤_}
 use mathlib.Core.Bool.{true}
-use mathlib.Core.List.{List, []}
 use mathlib.Core.Path.{_≡_, sym, subst, _∙_}
 use native.Mathlib.Omega.{arith}
 use borrow.Author.Tests.{not-true, not-false}
@@ -12,14 +11,13 @@ use Rattle.sheet.proofs.Tests.{marks-most}
 use Rattle.sheet.proofs.Opening.{ones-addable, same-entry}
 use Rattle.sheet.specs.Limits.{mostMarks, marksOk}
 use Rattle.sheet.specs.Record.{Record, opened}
-use Rattle.stored.specs.Sections.{sections}
-use Rattle.stored.specs.Fields.{Bytes, due, marks, count, sectionsDue, refused, good as good-outcome, ReadingBy}
-use Rattle.stored.specs.declared.Section.{Section}
+use Rattle.stored.specs.Sections.{Rest, sections}
+use Rattle.stored.specs.Fields.{Bytes, due, marks, count, end, restDue, refused, good as good-outcome, ReadingBy}
 use Rattle.stored.specs.declared.Section.the-variants.{Class, Held}
 use Rattle.reading.specs.Parts.{Leads, ReadBefore, Got}
 use Rattle.reading.proofs.Offsets.{then, then-run, early-at, left-over, all-read}
 use Rattle.reading.proofs.Entries.{part-bad, part-good}
-use Rattle.reading.proofs.Whole.{behindClass, refusal-read, marks-taken, marks-wrong, classRead, standingsRead, wholeRecord, before-class, before-held, EitherGot, either-bad, either-good, times-addable, outs-addable, read-answered}
+use Rattle.reading.proofs.Whole.{behindClass, behindHeld, refusal-read, marks-taken, marks-wrong, classRead, standingsRead, heldRead, wholeRecord, before-class, before-held, EitherGot, either-bad, either-good, end-bad, end-good, times-addable, outs-addable, read-answered}
 use Rattle.reading.proofs.read_by.Statement.{statement}
 use Rattle.reading.proofs.read_by.Tie as tie
 
@@ -44,14 +42,14 @@ none-barred c = before-class (c .before .before .byte .result) (replicate 32 0) 
 class-got : (c : tie.Else3)
     → let e = c .before .before .before .before in
     let r = c .before .before .read .result in
-    Got (e .before .before .before .before .before .before .args .bytes .now) Class (e .before .before .byte .result) (replicate 32 0) (λ (rest : List Section) (q : Record). due (count Class rest q)) sectionsDue 1 (r .own) (r .at)
+    Got (e .before .before .before .before .before .before .args .bytes .now) Class (e .before .before .byte .result) (replicate 32 0) (λ (rest : Rest) (q : Record). due (count Class rest q)) restDue 1 (r .own) (r .at)
 class-got c = part-good (c .before .before .read .ensures) (not-false _ (c .if3 .left))
 
 past-class : (c : tie.Else3)
     → let e = c .before .before .before .before in
     let a = e .before .before .before .before .before .before .args in
     let r = c .before .before .read .result in
-    Leads (a .bytes .now) (due (marks (sections (a .layout)))) 0 (sectionsDue (behindClass (a .layout)) (classRead (e .before .before .byte .result) (r .own))) (r .at)
+    Leads (a .bytes .now) (due (marks (sections (a .layout)))) 0 (restDue (behindClass (a .layout)) (classRead (e .before .before .byte .result) (r .own))) (r .at)
 past-class c =
     let e = c .before .before .before .before in
     then (past-marks e) (class-got c .leads (behindClass (e .before .before .before .before .before .before .args .layout)) (opened (e .before .before .byte .result)) (none-barred e))
@@ -75,41 +73,67 @@ past-either : (c : tie.Else4)
     let e = d .before .before .before .before in
     let a = e .before .before .before .before .before .before .args in
     let p = c .before .before .either-part .result in
-    Leads (a .bytes .now) (due (marks (sections (a .layout)))) 0 (due (count Held [] (standingsRead (e .before .before .byte .result) (d .before .before .read .result .own) (p .own)))) (p .at)
+    Leads (a .bytes .now) (due (marks (sections (a .layout)))) 0 (due (count Held (behindHeld (a .layout)) (standingsRead (e .before .before .byte .result) (d .before .before .read .result .own) (p .own)))) (p .at)
 past-either c = then (past-class (c .before .before .before .before .before)) (either-got c .leads)
 
 -- behind what is held
-abbrev whole : tie.Else5 → Record
-whole c =
+abbrev held : tie.Else5 → Record
+held c =
     let d = c .before .before .before .before .before in
     let e = d .before .before .before .before .before in
-    wholeRecord (e .before .before .before .before .before .before .byte .result) (e .before .before .read .result .own) (d .before .before .either-part .result .own) (c .before .before .read2 .result .own)
+    heldRead (e .before .before .before .before .before .before .byte .result) (e .before .before .read .result .own) (d .before .before .either-part .result .own) (c .before .before .read2 .result .own)
 
 held-got : (c : tie.Else5)
     → let d = c .before .before .before .before .before in
     let e = d .before .before .before .before .before .before .before .before .before in
     let p = d .before .before .either-part .result in
     let r = c .before .before .read2 .result in
-    Got (e .before .before .before .before .before .before .args .bytes .now) Held (e .before .before .byte .result) (p .own) (λ (rest : List Section) (q : Record). due (count Held rest q)) sectionsDue (p .at) (r .own) (r .at)
+    Got (e .before .before .before .before .before .before .args .bytes .now) Held (e .before .before .byte .result) (p .own) (λ (rest : Rest) (q : Record). due (count Held rest q)) restDue (p .at) (r .own) (r .at)
 held-got c = part-good (c .before .before .read2 .ensures) (not-false _ (c .if5 .left))
 
+abbrev start-of : tie.Else5 → tie.Start
+start-of c = c .before .before .before .before .before .before .before .before .before .before .before .before .before .before .before .before .before .before .before .before
+
 past-held : (c : tie.Else5)
-    → let a = c .before .before .before .before .before .before .before .before .before .before .before .before .before .before .before .before .before .before .before .before .args in
-    Leads (a .bytes .now) (due (marks (sections (a .layout)))) 0 (sectionsDue [] (whole c)) (c .before .before .read2 .result .at)
+    → let a = start-of c .args in
+    Leads (a .bytes .now) (due (marks (sections (a .layout)))) 0 (restDue (behindHeld (a .layout)) (held c)) (c .before .before .read2 .result .at)
 past-held c =
     let d = c .before .before .before .before .before in
     let e = d .before .before .before .before .before in
     let m = e .before .before .before .before .before .before .byte .result in
     let ins = e .before .before .read .result .own in
     let either = d .before .before .either-part .result .own in
-    then (past-either d) (held-got c .leads [] (standingsRead m ins either) (before-held m ins either))
+    then (past-either d) (held-got c .leads (behindHeld (start-of c .args .layout)) (standingsRead m ins either) (before-held m ins either))
 
-all-good : (c : tie.Else6)
-    → let a = c .before .before .before .before .before .before .before .before .before .before .before .before .before .before .before .before .before .before .before .before .before .args in
-    ReadingBy (a .layout) mostMarks (a .bytes .now) (good-outcome (whole (c .before)))
+-- behind the profile
+abbrev whole : tie.Else6 → Record
+whole c =
+    let p = c .before .before in
+    let h = p .before .before in
+    let d = h .before .before .before .before .before in
+    let e = d .before .before .before .before .before in
+    wholeRecord (e .before .before .before .before .before .before .byte .result) (e .before .before .read .result .own) (d .before .before .either-part .result .own) (h .before .before .read2 .result .own) (p .profile-part .result .profile)
+
+past-profile : (c : tie.Else6)
+    → let a = start-of (c .before .before .before .before) .args in
+    Leads (a .bytes .now) (due (marks (sections (a .layout)))) 0 (end (whole c)) (c .before .before .profile-part .result .at)
+past-profile c =
+    let p = c .before .before in
+    let h = p .before .before in
+    let d = h .before .before .before .before .before in
+    let e = d .before .before .before .before .before in
+    let a = start-of h .args in
+    let r = h .before .before .read2 .result in
+    then (past-held h)
+    (end-good (a .bytes .now) (e .before .before .before .before .before .before .byte .result) (e .before .before .read .result .own) (d .before .before .either-part .result .own) (r .own) (r .at)
+    (p .profile-part .result) (a .layout) (p .profile-part .ensures) (not-false _ (c .if6 .left)))
+
+all-good : (c : tie.Else7)
+    → let a = start-of (c .before .before .before .before .before .before) .args in
+    ReadingBy (a .layout) mostMarks (a .bytes .now) (good-outcome (whole (c .before .before)))
 all-good c =
-    let a = c .before .before .before .before .before .before .before .before .before .before .before .before .before .before .before .before .before .before .before .before .before .args in
-    then-run (past-held (c .before)) (all-read (a .bytes .now) _ _ (c .if6 .left))
+    let a = start-of (c .before .before .before .before .before .before) .args in
+    then-run (past-profile (c .before .before)) (all-read (a .bytes .now) _ _ (c .if7 .left))
 
 bytes-known : (c : tie.After-shared-slice-known2) → Bytes (c .before .before .before .args .bytes .now)
 bytes-known c i = omega (arith, c .shared-slice-known2 .given i)
@@ -165,22 +189,49 @@ returns-5 c =
     let ins = e .before .before .read .result .own in
     let either = d .before .before .either-part .result .own in
     refusal-read (a .layout) (a .bytes .now) 10 _ (c .refused5 .ensures)
-    (then-run (past-either d) (part-bad (r .read2 .ensures) (not-true _ (c .before .if5 .taken)) [] (standingsRead m ins either) (before-held m ins either)))
+    (then-run (past-either d) (part-bad (r .read2 .ensures) (not-true _ (c .before .if5 .taken)) (behindHeld (a .layout)) (standingsRead m ins either) (before-held m ins either)))
+
+profile-part-requires : tie.Need-profile-part-requires
+profile-part-requires c κs =
+    let h = c .before in
+    (few (h .before .before .before .before .before .before .before .before .before .before .before .before .before .before), held-got h .inside)
 
 returns-6 : tie.Need-returns-6
 returns-6 c =
-    let a = c .before .before .before .before .before .before .before .before .before .before .before .before .before .before .before .before .before .before .before .before .before .before .args in
-    refusal-read (a .layout) (a .bytes .now) 10 _ (c .refused6 .ensures) (then-run (past-held (c .before .before)) (left-over (a .bytes .now) _ _ (c .before .if6 .taken)))
+    let p = c .before .before .before in
+    let h = p .before .before in
+    let d = h .before .before .before .before .before in
+    let e = d .before .before .before .before .before in
+    let a = start-of h .args in
+    let r = h .before .before .read2 .result in
+    refusal-read (a .layout) (a .bytes .now) 10 _ (c .refused6 .ensures)
+    (then-run (past-held h)
+    (end-bad (a .bytes .now) (e .before .before .before .before .before .before .byte .result) (e .before .before .read .result .own) (d .before .before .either-part .result .own) (r .own) (r .at)
+    (p .profile-part .result) (a .layout) (p .profile-part .ensures) (not-true _ (c .before .if6 .taken))))
 
--- the array's length is known too far back for the search
+returns-7 : tie.Need-returns-7
+returns-7 c =
+    let e = c .before .before .before in
+    let a = start-of (e .before .before .before .before) .args in
+    refusal-read (a .layout) (a .bytes .now) 10 _ (c .refused7 .ensures) (then-run (past-profile e) (left-over (a .bytes .now) _ _ (c .before .if7 .taken)))
+
+-- the lengths of these arrays are known too far back for the search
 eithers-long : tie.Need-slice-aggregate-afresh-2
-eithers-long c = let known = c .before .before .before .before .before .before .before .before .before .before .before .before .before .before .either-part .ok in search needs
+eithers-long c =
+    let h = c .before .before .before .before .before .before .before .before .before .before .before .before in
+    let known = h .before .before .before .before .before .before .before .either-part .ok in search needs
+
+times-long : tie.Need-slice-aggregate-afresh-3
+times-long c =
+    let h = c .before .before .before .before .before .before .before .before .before .before .before .before .before in
+    let known = h .before .before .read2 .ok in search needs
 
 afresh-requires : tie.Need-afresh-requires
 afresh-requires c κs =
     let n = c .before .before .before .before in
     let g = n .before .before .before in
-    let h = g .before in
+    let p = g .before .before .before .before in
+    let h = p .before .before in
     let d = h .before .before .before .before .before in
     let e = d .before .before .before .before .before in
     let b = e .before .before .before .before .before .before in
@@ -188,18 +239,20 @@ afresh-requires c κs =
     let ins = e .before .before .read .result .own in
     let either = d .before .before .either-part .result .own in
     let times = h .before .before .read2 .result .own in
+    let profile = p .profile-part .result .profile in
     let five = few (e .before .before .before .before) in (
       five,
-      outs-addable m ins either times (n .neither .ensures) five,
+      outs-addable m ins either times profile (n .neither .ensures) five,
       ones-addable m either five (either-got d .long) (either-got d .ones),
-      times-addable m ins either times (b .before .before .before .before .args .layout) (held-got h .long) (bytes-known (b .before)) (all-good g),
+      times-addable m ins either times profile (start-of h .args .layout) (held-got h .long) (bytes-known (b .before)) (all-good g),
     )
 
-returns-7 : tie.Need-returns-7
-returns-7 c =
+returns-8 : tie.Need-returns-8
+returns-8 c =
     let n = c .before .before .before .before .before in
     let g = n .before .before .before in
-    let h = g .before in
+    let p = g .before .before .before .before in
+    let h = p .before .before in
     let d = h .before .before .before .before .before in
     let e = d .before .before .before .before .before in
     let m = e .before .before .before .before .before .before .byte .result in
@@ -208,14 +261,14 @@ returns-7 c =
     let times = h .before .before .read2 .result .own in
     let five = few (e .before .before .before .before) in
     record {
-      outcome = good-outcome (whole h);
+      outcome = good-outcome (whole (g .before .before));
       run = all-good g;
-      is = read-answered m ins either times (n .neither .ensures) five (class-got e .most) (either-got d .ones) (c .afresh .ensures);
+      is = read-answered m ins either times (p .profile-part .result .profile) (n .neither .ensures) five (class-got e .most) (either-got d .ones) (c .afresh .ensures);
     }
 
 pub read-by-spec : {M : Type 1} → statement M
 read-by-spec = tie.close (tie.spec
     (λ c κs. search needs) returns (λ c. search needs) (λ c κs. search needs) (λ c κs. search needs)
     (λ c κs. search needs) returns-2 read-requires (λ c κs. search needs) returns-3 either-part-requires
-    (λ c κs. search needs) returns-4 read-requires-2 (λ c κs. search needs) returns-5 (λ c κs. search needs) returns-6
-    (λ c κs. search needs) (λ c. search needs) eithers-long (λ c. search needs) afresh-requires returns-7)
+    (λ c κs. search needs) returns-4 read-requires-2 (λ c κs. search needs) returns-5 profile-part-requires (λ c κs. search needs) returns-6
+    (λ c κs. search needs) returns-7 (λ c κs. search needs) (λ c. search needs) eithers-long times-long afresh-requires returns-8)
