@@ -1,5 +1,5 @@
--- What a good text draws: 1 to `most` marks, the union of its cube lines as class, and nothing held. Line by line: a cube adds its combinations, and no
--- other line does.
+-- What a good text draws: 1 to `most` marks, no profile, the union of its cube lines as class, and nothing held. Line by line: a cube adds its
+-- combinations, and no other line does.
 use Prim.Native.Nat.{ℕ, _^_, _<_}
 use mathlib.Core.Path.{_≡_, refl, sym, ap, subst, _∙_}
 use mathlib.Core.Bool.{Bool, true, false, not, cond, _&&_, _||_}
@@ -15,6 +15,7 @@ use Rattle.boxes.specs.Boxes.{contains}
 use Rattle.boxes.proofs.Boxes.{contains-combination}
 use Rattle.lists.specs.Lists.{covered}
 use Rattle.lists.proofs.Count.{covered-last}
+use Rattle.profiles.specs.declared.Profile.the-variants.{None}
 use Rattle.sheet.specs.Limits.{marksOk}
 use Rattle.sheet.specs.Record.{isIn, isOut, isEither, Record, inClass, NoneEither}
 use Rattle.sheet.specs.declared.Standing.the-variants.{In, Out}
@@ -291,6 +292,10 @@ text-draws {most} {t} p =
 -- 1 to `most` marks
 pub drawn-marks : {most : ℕ} {t : List ℕ} {r : Record} → PlaSays most t (good r) → marksOk most (r .marks) ≡ true
 drawn-marks {most} {t} {r} p = let d = text-draws p in ap (λ (x : Record). marksOk most (x .marks)) (d .is) ∙ d .right
+
+-- there is no profile
+pub drawn-profile : {most : ℕ} {t : List ℕ} {r : Record} → PlaSays most t (good r) → r .profile ≡ None
+drawn-profile p = ap (λ (x : Record). x .profile) (text-draws p .is)
 
 -- nothing is held
 pub drawn-times : {most : ℕ} {t : List ℕ} {r : Record} → PlaSays most t (good r) → (c : ℕ) → r .times c ≡ 0

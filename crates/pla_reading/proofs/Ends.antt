@@ -12,6 +12,7 @@ use Rattle.boxes.specs.Sums.{only}
 use Rattle.tables.specs.Tables.{entry}
 use Rattle.lists.specs.Lists.{covered}
 use Rattle.sets.specs.Sets.{has, Outs}
+use Rattle.profiles.specs.declared.Profile.the-variants.{None}
 use Rattle.sheet.specs.Limits.{mostMarks, entries}
 use Rattle.sheet.specs.Record.{outs, eithers, Record, outside-counts, either-counts, quantity, sheetFrom, sheetOf}
 use Rattle.sheet.specs.declared.Standing.the-variants.{In, Out}
@@ -99,13 +100,13 @@ eithers-alone false = refl
 
 -- the sheet that is worked out from them
 pub drawn-sheet : (s : Saids) (k : Said) (outs : List ℕ) {sheet : Sheet} → Keeps s k → Outs (k .class) outs
-    → sheet ≡ sheetFrom entries (k .inputs) (entry outs) (entry (replicate 32 0)) (entry (replicate 32 0)) → _≡_ {A = Sheet} sheet (sheetOf entries (drawnBy s))
+    → sheet ≡ sheetFrom entries (k .inputs) None (entry outs) (entry (replicate 32 0)) (entry (replicate 32 0)) → _≡_ {A = Sheet} sheet (sheetOf entries (drawnBy s))
 drawn-sheet s k outs kept is e =
     let m = s .inputs in
     let none = entry (replicate 32 0) in
     let zero : (c : ℕ) → c < 2 ^ m → none c ≡ 0 = λ c l. same-entry m 0 c (kept .most) l in
-    e ∙ ap (λ (x : ℕ). sheetFrom entries x (entry outs) none none) (kept .inputs)
-    ∙ sheet-same entries m (entry outs) (quantity outside-counts (drawnBy s)) none (quantity either-counts (drawnBy s)) none (λ c. 0)
+    e ∙ ap (λ (x : ℕ). sheetFrom entries x None (entry outs) none none) (kept .inputs)
+    ∙ sheet-same entries m None (entry outs) (quantity outside-counts (drawnBy s)) none (quantity either-counts (drawnBy s)) none (λ c. 0)
     (λ c l. is .1 c (omega (arith, combinations-fit m (kept .most), l)) ∙ ap (λ (f : ℕ → Bool). only (not (f c)) 1) (kept .class) ∙ outs-alone (covered m (s .cubes) c))
     (λ c l. zero c l ∙ sym (eithers-alone (covered m (s .cubes) c)))
     zero

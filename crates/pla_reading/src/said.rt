@@ -9,6 +9,7 @@ ghost use Rattle.pla.specs.Reading.{nothingSaid};
 ghost use Rattle.pla.specs.Sayings.{inputs, output, count, cube};
 ghost use Rattle.pla_reading.specs.Parts.{Keeps, Hearable, Makes, MakesOf, Judged, Comes};
 use pla_lines::Heard;
+use profiles::Profile;
 use sheet::Sheet;
 use stored::Read;
 
@@ -145,7 +146,7 @@ impl Said {
         Read {
             number: 0,
             place: 0,
-            sheet: Sheet::afresh(self.inputs, &outs, &none, &none),
+            sheet: Sheet::afresh(self.inputs, Profile::None, &outs, &none, &none),
         }
     }
 }
