@@ -1,7 +1,7 @@
 /* Every entry at its limits, through vault.h: each answer that it can give, areas of every length around the one that is needed, empty areas with
-   a null pointer and without, numbers above 2^32, guard bytes around what is lent, the known sheets, sheets with either combinations, old forms, lists
-   with every fault at every place, every beginning of a running time with every byte behind it, PLA texts line by line and byte by byte, and calls from
-   threads with small stacks.
+   a null pointer and without, numbers above 2^32, guard bytes around what is lent, the known sheets, sheets with either combinations, carrier profiles of
+   every one and every two groups, old forms, lists with every fault at every place, every beginning of a running time with every byte behind it, PLA texts
+   line by line and byte by byte, and calls from threads with small stacks.
    Prints the first that failed and the number of checks; the exit status is 0 only if none failed. */
 #define _DEFAULT_SOURCE
 #include "vault.h"
@@ -63,10 +63,12 @@ static int holds(struct area *a, const uint8_t *want, size_t n)
 
 /* ---- the calls that write, as one */
 
-enum entry { OPEN, ENTER, LEAVE, MAKE_EITHER, RECEIVE, WITHDRAW, COPY, LIST, WRITE_PLA, READ_PLA, FROM_FORM1 };
-static const char *const names[] = {"vault_open", "vault_enter", "vault_leave",     "vault_make_either", "vault_receive",   "vault_withdraw",
-                                    "vault_copy", "vault_list",  "vault_write_pla", "vault_read_pla",    "vault_from_form1"};
+enum entry { OPEN, OPEN_PROFILE, ENTER, LEAVE, MAKE_EITHER, RECEIVE, WITHDRAW, COPY, LIST, WRITE_PLA, READ_PLA, FROM_FORM1 };
+static const char *const names[] = {"vault_open",        "vault_open_profile", "vault_enter",    "vault_leave",
+                                    "vault_make_either", "vault_receive",      "vault_withdraw", "vault_copy",
+                                    "vault_list",        "vault_write_pla",    "vault_read_pla", "vault_from_form1"};
 
+/* What is lent to be read is a sheet, or the groups of a profile, or a text; x is the combination, or the marks. */
 struct call {
     enum entry entry;
     const uint8_t *sheet;
@@ -78,6 +80,7 @@ static struct vault_reply made(const struct call *c, uint8_t *out, size_t n)
 {
     switch (c->entry) {
     case OPEN: return vault_open(c->x, out, n);
+    case OPEN_PROFILE: return vault_open_profile(c->x, c->sheet, c->size, out, n);
     case ENTER: return vault_enter(c->sheet, c->size, c->x, out, n);
     case LEAVE: return vault_leave(c->sheet, c->size, c->x, out, n);
     case MAKE_EITHER: return vault_make_either(c->sheet, c->size, c->x, out, n);
@@ -155,6 +158,17 @@ static const uint8_t sample1[] = {2, 3, 0, 1, 2, 3, 3, 0, 0, 0xf0, 0, 0, 0, 1, 0
 
 /* Every standing, of two marks: 1 is in, 3 either, 0 and 2 out; 240 and 150 seconds under 0 and 1. */
 static const uint8_t mixed[] = {2, 1, 0, 1, 1, 0, 3, 2, 0, 0, 0xf0, 0, 0, 0, 1, 0x96, 0, 0, 0};
+
+/* Under a profile: a can has one of the marks 0, 1 and 2, nitrate, acetate and polyester, so that 0, 3, 5, 6 and 7 are either. As it is opened; with nitrate
+   in the class; with nitrate and acetate there; that with 240 seconds under nitrate; and with polyester either. */
+static const uint8_t carriers[] = {3, 0, 0, 5, 0, 0, 3, 5, 6, 7, 0, 0, 1, 0, 7};
+static const uint8_t nitrate[] = {3, 1, 0, 1, 5, 0, 0, 3, 5, 6, 7, 0, 0, 1, 0, 7};
+static const uint8_t two[] = {3, 2, 0, 1, 2, 5, 0, 0, 3, 5, 6, 7, 0, 0, 1, 0, 7};
+static const uint8_t stocked[] = {3, 2, 0, 1, 2, 5, 0, 0, 3, 5, 6, 7, 1, 0, 1, 0xf0, 0, 0, 0, 1, 0, 7};
+static const uint8_t no_polyester[] = {3, 2, 0, 1, 2, 6, 0, 0, 3, 4, 5, 6, 7, 0, 0, 1, 0, 7};
+
+/* Under two groups, as it is opened: one of the marks 0 and 1, and one of 2 and 3, so that all are either but 5, 6, 9 and 10. */
+static const uint8_t paired[] = {4, 0, 0, 12, 0, 0, 1, 2, 3, 4, 7, 8, 11, 12, 13, 14, 15, 0, 0, 2, 0, 3, 12};
 
 /* One mark, nothing in; 4,000,000,000 and 3,999,964,001 seconds under 1; and the first with 0 either. */
 static const uint8_t full[] = {1, 0, 0, 0, 0, 1, 0, 1, 0x00, 0x28, 0x6b, 0xee};
@@ -272,6 +286,24 @@ struct bad {
     uint64_t answer, place;
 };
 
+/* No entry that reads a sheet reads these, whatever else it is given. */
+static void unreadable_sheets(const struct bad *bad, size_t rows)
+{
+    for (size_t i = 0; i < rows; i++) {
+        const uint8_t *t = bad[i].bytes;
+        size_t n = bad[i].n;
+        for (enum entry e = ENTER; e <= WRITE_PLA; e++)
+            refuses((struct call){e, t, n, 99, 0}, bad[i].answer, bad[i].place);
+        check(is(vault_class_size(t, n), bad[i].answer, bad[i].place, 0), "vault_class_size refuses", (long)i);
+        check(is(vault_total(t, n), bad[i].answer, bad[i].place, 0), "vault_total refuses", (long)i);
+        check(is(vault_outside(t, n, 0), bad[i].answer, bad[i].place, 0), "vault_outside refuses", (long)i);
+        check(is(vault_either(t, n, 0), bad[i].answer, bad[i].place, 0), "vault_either refuses", (long)i);
+        check(is(vault_held(t, n, 0), bad[i].answer, bad[i].place, 0), "vault_held refuses", (long)i);
+        struct vault_verdict v = vault_check_list(t, n, sample, sizeof sample);
+        check(v.answer == bad[i].answer && v.place == bad[i].place && v.fault == 0 && v.at == 0, "vault_check_list refuses", (long)i);
+    }
+}
+
 static void reading(void)
 {
     static const struct bad bad[] = {
@@ -321,7 +353,6 @@ static void reading(void)
         {{1, 0, 0, 0, 0, 1, 0, 1, 1, 0x28, 0x6b, 0xee}, 12, 10, 8},
         {{1, 0, 0, 0, 0, 2, 0, 0, 1, 0, 0, 0, 1, 0x00, 0x28, 0x6b, 0xee}, 17, 10, 13},
         {{1, 0, 0, 0, 0, 2, 0, 1, 1, 0, 0, 0, 1, 1, 0, 0, 0}, 17, 10, 12},
-        {{1, 0, 0, 0, 0, 0, 0, 0}, 8, 10, 7},
         /* one that is either: at the combination, whatever its seconds are, and before they are there */
         {{1, 0, 0, 1, 0, 1, 1, 0, 1, 1, 0, 0, 0}, 13, 10, 8},
         {{1, 0, 0, 1, 0, 1, 1, 0, 1, 0, 0, 0, 0}, 13, 10, 8},
@@ -330,19 +361,7 @@ static void reading(void)
         {{1, 0, 0, 2, 0, 0, 1, 1, 0, 0, 1, 0, 0, 0}, 14, 10, 9},
         {{2, 1, 0, 2, 1, 0, 0, 1, 0, 0, 1, 0, 0, 0}, 14, 10, 9},
     };
-    for (size_t i = 0; i < sizeof bad / sizeof *bad; i++) {
-        const uint8_t *t = bad[i].bytes;
-        size_t n = bad[i].n;
-        for (enum entry e = ENTER; e <= WRITE_PLA; e++)
-            refuses((struct call){e, t, n, 99, 0}, bad[i].answer, bad[i].place);
-        check(is(vault_class_size(t, n), bad[i].answer, bad[i].place, 0), "vault_class_size refuses", (long)i);
-        check(is(vault_total(t, n), bad[i].answer, bad[i].place, 0), "vault_total refuses", (long)i);
-        check(is(vault_outside(t, n, 0), bad[i].answer, bad[i].place, 0), "vault_outside refuses", (long)i);
-        check(is(vault_either(t, n, 0), bad[i].answer, bad[i].place, 0), "vault_either refuses", (long)i);
-        check(is(vault_held(t, n, 0), bad[i].answer, bad[i].place, 0), "vault_held refuses", (long)i);
-        struct vault_verdict v = vault_check_list(t, n, sample, sizeof sample);
-        check(v.answer == bad[i].answer && v.place == bad[i].place && v.fault == 0 && v.at == 0, "vault_check_list refuses", (long)i);
-    }
+    unreadable_sheets(bad, sizeof bad / sizeof *bad);
     for (enum entry e = ENTER; e <= FROM_FORM1; e++)
         refuses((struct call){e, NULL, 0, 0, 1}, VAULT_UNREADABLE, 0);
     for (size_t n = 0; n < sizeof sample; n++)
@@ -400,7 +419,7 @@ static void copying(void)
 {
     uint8_t form[VAULT_FORM_SIZE];
     size_t n = longest(form);
-    check(n == VAULT_FORM_SIZE, "the longest form", (long)n);
+    check(n == 199 && n <= VAULT_FORM_SIZE, "the longest form", (long)n);
     writes((struct call){COPY, form, n, 0, 0}, form, n, n);
     writes((struct call){COPY, sample, sizeof sample, 0, 0}, sample, sizeof sample, sizeof sample);
     writes((struct call){COPY, mixed, sizeof mixed, 0, 0}, mixed, sizeof mixed, sizeof mixed);
@@ -973,15 +992,24 @@ static void long_lists(void)
     free(list);
 }
 
-/* A length whose low 32 bits are 0, and one with 1 there, of which the first number is no box. Of the pages only the first can be written to. */
+/* Zeros, so many that there may be no room for their addresses: then that is said, and there are none. Only the first page can be written to. */
+static uint8_t *zeros(size_t n, const char *what)
+{
+    size_t page = (size_t)sysconf(_SC_PAGESIZE);
+    uint8_t *p = mmap(NULL, n, PROT_READ, MAP_PRIVATE | MAP_ANONYMOUS, -1, 0);
+    if (p != MAP_FAILED && mprotect(p, page, PROT_READ | PROT_WRITE) == 0)
+        return p;
+    printf("boundary: %s not tried: there is no room for its addresses\n", what);
+    return NULL;
+}
+
+/* A length whose low 32 bits are 0, and one with 1 there, of which the first number is no box. */
 static void longest_list(void)
 {
-    size_t n = ((size_t)1 << 32) + 1, page = (size_t)sysconf(_SC_PAGESIZE);
-    uint8_t *list = mmap(NULL, n, PROT_READ, MAP_PRIVATE | MAP_ANONYMOUS, -1, 0);
-    if (list == MAP_FAILED || mprotect(list, page, PROT_READ | PROT_WRITE) != 0) {
-        printf("boundary: a list of 2^32 lines is not tried: there is no room for its addresses\n");
+    size_t n = ((size_t)1 << 32) + 1;
+    uint8_t *list = zeros(n, "a list of 2^32 lines is");
+    if (list == NULL)
         return;
-    }
     list[0] = 255;
     check(judged(vault_check_list(sample, sizeof sample, list, n - 1), VAULT_DONE, 0, VAULT_NO_BOX, 0), "2^32 lines", 0);
     list[0] = 0;
@@ -1024,6 +1052,7 @@ static void spoiled_sheets(void)
 {
     spoiled_sheet(sample, sizeof sample);
     spoiled_sheet(mixed, sizeof mixed);
+    spoiled_sheet(stocked, sizeof stocked);
     check(judged(vault_check_list(NULL, 0, NULL, 0), VAULT_UNREADABLE, 0, 0, 0), "no sheet and no list", 0);
     check(judged(vault_check_list(NULL, 0, sample, 3), VAULT_UNREADABLE, 0, 0, 0), "no sheet", 0);
 }
@@ -1841,6 +1870,605 @@ static void pla(void)
     writing_texts_with_either();
 }
 
+/* ---- carrier profiles */
+
+struct profile {
+    uint64_t marks;
+    size_t n;
+    uint8_t groups[2];
+};
+
+/* Whether groups are a profile, mark by mark. */
+static int is_profile(uint64_t marks, const uint8_t *groups, size_t n)
+{
+    int named[8] = {0}, good = n == 1 || n == 2;
+    for (size_t k = 0; good && k < n; k++) {
+        int size = 0;
+        for (unsigned i = 0; i < 8; i++)
+            if (groups[k] >> i & 1) {
+                good = good && i < marks && !named[i];
+                named[i] = 1;
+                size++;
+            }
+        good = good && size >= 2;
+    }
+    return good;
+}
+
+/* The combinations that break a profile: none of the marks of some group is on, or a second one. */
+static uint32_t breaking(uint64_t marks, const uint8_t *groups, size_t n)
+{
+    uint32_t set = 0;
+    for (uint32_t c = 0; c < VAULT_COMBINATIONS(marks); c++)
+        for (size_t k = 0; k < n; k++) {
+            uint32_t on = c & groups[k];
+            if (on == 0 || (on & (on - 1)) != 0)
+                set |= UINT32_C(1) << c;
+        }
+    return set;
+}
+
+/* The form of a sheet under a profile that holds nothing, whether its standings fit it or not; and of an opened one. */
+static size_t drawn_under(uint8_t form[VAULT_FORM_SIZE], const struct profile *p, uint32_t class, uint32_t either)
+{
+    size_t n = drawn_with(form, p->marks, class, either);
+    form[n++] = (uint8_t)p->n;
+    form[n++] = 0;
+    memcpy(form + n, p->groups, p->n);
+    return n + p->n;
+}
+
+static size_t opened_under(uint8_t form[VAULT_FORM_SIZE], const struct profile *p)
+{
+    return drawn_under(form, p, 0, breaking(p->marks, p->groups, p->n));
+}
+
+/* All profiles there are: 1, 4, 17 and 76 of two to five marks. */
+static struct profile every_profile[98];
+static size_t profiles;
+
+static void add_profile(struct profile p)
+{
+    if (!is_profile(p.marks, p.groups, p.n))
+        return;
+    if (profiles < sizeof every_profile / sizeof *every_profile)
+        every_profile[profiles] = p;
+    profiles++;
+}
+
+static void find_profiles(void)
+{
+    static const size_t upto[] = {0, 0, 1, 5, 22, 98};
+    for (uint64_t m = 1; m <= 5; m++) {
+        for (unsigned pair = 0; pair < 32 * 32; pair++) {
+            if (pair < 32)
+                add_profile((struct profile){m, 1, {(uint8_t)pair, 0}});
+            add_profile((struct profile){m, 2, {(uint8_t)(pair % 32), (uint8_t)(pair / 32)}});
+        }
+        check(profiles == upto[m], "the number of profiles", (long)m);
+    }
+}
+
+/* Openings, written out. */
+static void known_profiles(void)
+{
+    static const struct {
+        struct profile p;
+        size_t size;
+        uint8_t form[40];
+    } t[] = {
+        {{2, 1, {3}}, 12, {2, 0, 0, 2, 0, 0, 3, 0, 0, 1, 0, 3}},
+        {{3, 1, {3}}, 14, {3, 0, 0, 4, 0, 0, 3, 4, 7, 0, 0, 1, 0, 3}},
+        {{3, 1, {5}}, 14, {3, 0, 0, 4, 0, 0, 2, 5, 7, 0, 0, 1, 0, 5}},
+        {{3, 1, {6}}, 14, {3, 0, 0, 4, 0, 0, 1, 6, 7, 0, 0, 1, 0, 6}},
+        {{4, 1, {15}}, 22, {4, 0, 0, 12, 0, 0, 3, 5, 6, 7, 9, 10, 11, 12, 13, 14, 15, 0, 0, 1, 0, 15}},
+        /* the groups in the order in which they were named */
+        {{4, 2, {12, 3}}, 23, {4, 0, 0, 12, 0, 0, 1, 2, 3, 4, 7, 8, 11, 12, 13, 14, 15, 0, 0, 2, 0, 12, 3}},
+        {{4, 2, {5, 10}}, 23, {4, 0, 0, 12, 0, 0, 1, 2, 4, 5, 7, 8, 10, 11, 13, 14, 15, 0, 0, 2, 0, 5, 10}},
+        {{5, 1, {31}}, 37, {5,  0,  0,  27, 0,  0,  3,  5,  6,  7,  9,  10, 11, 12, 13, 14, 15, 17, 18,
+                            19, 20, 21, 22, 23, 24, 25, 26, 27, 28, 29, 30, 31, 0,  0,  1,  0,  31}},
+        {{5, 2, {7, 24}}, 37, {5,  0,  0,  26, 0,  0,  1,  2,  3,  4,  5,  6,  7, 8, 11, 13, 14, 15, 16,
+                               19, 21, 22, 23, 24, 25, 26, 27, 28, 29, 30, 31, 0, 0, 2,  0,  7,  24}},
+    };
+    for (size_t i = 0; i < sizeof t / sizeof *t; i++)
+        writes((struct call){OPEN_PROFILE, t[i].p.groups, t[i].p.n, t[i].p.marks, 0}, t[i].form, t[i].size, t[i].size);
+    writes((struct call){OPEN_PROFILE, (const uint8_t[]){7}, 1, 3, 0}, carriers, sizeof carriers, sizeof carriers);
+    writes((struct call){OPEN_PROFILE, (const uint8_t[]){3, 12}, 2, 4, 0}, paired, sizeof paired, sizeof paired);
+    check(VAULT_PROFILE == 13, "the number of a faulty profile", VAULT_PROFILE);
+}
+
+/* Each fault of a profile, in every room; and marks that are none come before. */
+static void faulty_profiles(void)
+{
+    static const struct {
+        uint64_t marks;
+        size_t n;
+        uint8_t groups[4];
+    } t[] = {
+        /* not one or two groups */
+        {3, 0, {7}},
+        {4, 3, {3, 12, 0}},
+        {5, 3, {3, 12, 16}},
+        {4, 4, {3, 12, 3, 12}},
+        /* fewer than two marks */
+        {3, 1, {0}},
+        {3, 1, {4}},
+        {3, 2, {3, 0}},
+        {3, 2, {0, 3}},
+        {3, 2, {3, 4}},
+        {3, 2, {4, 3}},
+        {2, 1, {2}},
+        {1, 1, {1}},
+        /* a mark twice */
+        {3, 2, {3, 6}},
+        {3, 2, {7, 7}},
+        {4, 2, {15, 3}},
+        {5, 2, {7, 28}},
+        /* a mark that there is not */
+        {1, 1, {3}},
+        {2, 1, {7}},
+        {3, 1, {15}},
+        {4, 1, {24}},
+        {4, 2, {3, 28}},
+        {4, 2, {28, 3}},
+        {5, 1, {63}},
+        {5, 1, {0xff}},
+        {5, 1, {0xe0}},
+        {5, 2, {31, 0x60}},
+        {5, 2, {0x83, 12}},
+    };
+    static const uint64_t wrong[] = {0, 6, 7, 255, 256 + 3, UINT64_C(0x100000003), UINT64_C(0x8000000000000003), UINT64_MAX};
+    for (size_t i = 0; i < sizeof t / sizeof *t; i++)
+        refuses((struct call){OPEN_PROFILE, t[i].groups, t[i].n, t[i].marks, 0}, VAULT_PROFILE, 0);
+    refuses((struct call){OPEN_PROFILE, NULL, 0, 3, 0}, VAULT_PROFILE, 0);
+    for (size_t i = 0; i < sizeof wrong / sizeof *wrong; i++) {
+        refuses((struct call){OPEN_PROFILE, (const uint8_t[]){7}, 1, wrong[i], 0}, VAULT_MARKS, 0);
+        refuses((struct call){OPEN_PROFILE, (const uint8_t[]){0xff, 0xff, 0xff}, 3, wrong[i], 0}, VAULT_MARKS, 0);
+        refuses((struct call){OPEN_PROFILE, NULL, 0, wrong[i], 0}, VAULT_MARKS, 0);
+    }
+}
+
+/* An opening as it is recounted: into an area that just suffices, and one that is a byte too short; a refused one into a long one. */
+static void opens(uint64_t marks, const uint8_t *groups, size_t n)
+{
+    uint8_t form[VAULT_FORM_SIZE] = {0};
+    struct profile p = {marks, n, {n > 0 ? groups[0] : 0, n > 1 ? groups[1] : 0}};
+    int opened = marks >= 1 && marks <= 5, good = opened && is_profile(marks, groups, n);
+    size_t size = good ? opened_under(form, &p) : 0;
+    struct area *a = lent(good ? size : ROOM);
+    struct vault_reply r = vault_open_profile(marks, groups, n, a->p, a->n);
+    check(is(r, good ? VAULT_DONE : opened ? VAULT_PROFILE : VAULT_MARKS, 0, size) && holds(a, form, size), "an opening under groups", (long)marks);
+    if (good) {
+        a = lent(size - 1);
+        check(is(vault_open_profile(marks, groups, n, a->p, a->n), VAULT_ROOM, 0, 0) && untouched(a), "a byte too short", (long)marks);
+    }
+}
+
+/* Every one and every two groups. */
+static void every_opening(uint64_t marks)
+{
+    uint8_t groups[2];
+    opens(marks, groups, 0);
+    opens(marks, NULL, 0);
+    for (int first = 0; first < 256; first++) {
+        groups[0] = (uint8_t)first;
+        opens(marks, groups, 1);
+        for (int second = 0; second < 256; second++) {
+            groups[1] = (uint8_t)second;
+            opens(marks, groups, 2);
+        }
+    }
+}
+
+/* Many groups, of which the first one or two would be a profile, and so many that the low bits of their number are those of one or two. */
+static void many_groups(void)
+{
+    enum { LONG = 1000000 };
+    static const size_t lengths[] = {3, 4, 5, 32, 255, 256, 257, 258, 513, 514, 65535, 65536, 65537, 65538, 131073, 131074, LONG};
+    uint8_t *groups = malloc(LONG);
+    size_t n = ((size_t)1 << 32) + 2;
+    if (groups == NULL) {
+        printf("no memory\n");
+        exit(2);
+    }
+    for (int second = 0; second < 256; second++) {
+        memset(groups, second, LONG);
+        groups[0] = 3;
+        for (size_t i = 0; i < sizeof lengths / sizeof *lengths; i++)
+            opens((uint64_t)(second % 7), groups, lengths[i]);
+    }
+    free(groups);
+    groups = zeros(n, "2^32 groups are");
+    if (groups == NULL)
+        return;
+    groups[0] = 3;
+    groups[1] = 12;
+    for (size_t less = 0; less <= 2; less++)
+        opens(4, groups, n - less);
+    opens(6, groups, n);
+    munmap(groups, n);
+}
+
+/* What changes a sheet keeps its profile; written out. */
+static void changes_of_carriers(void)
+{
+    static const uint8_t less[] = {3, 2, 0, 1, 2, 5, 0, 0, 3, 5, 6, 7, 1, 0, 1, 0xef, 0, 0, 0, 1, 0, 7};
+    static const uint8_t three[] = {3, 3, 0, 1, 2, 4, 5, 0, 0, 3, 5, 6, 7, 0, 0, 1, 0, 7};
+    static const uint8_t in10[] = {4, 1, 0, 10, 12, 0, 0, 1, 2, 3, 4, 7, 8, 11, 12, 13, 14, 15, 0, 0, 2, 0, 3, 12};
+    static const uint8_t either5[] = {4, 0, 0, 13, 0, 0, 1, 2, 3, 4, 5, 7, 8, 11, 12, 13, 14, 15, 0, 0, 2, 0, 3, 12};
+    writes((struct call){ENTER, carriers, sizeof carriers, 1, 0}, nitrate, sizeof nitrate, sizeof nitrate);
+    writes((struct call){ENTER, nitrate, sizeof nitrate, 2, 0}, two, sizeof two, sizeof two);
+    writes((struct call){LEAVE, nitrate, sizeof nitrate, 1, 0}, carriers, sizeof carriers, sizeof carriers);
+    writes((struct call){RECEIVE, two, sizeof two, 1, 240}, stocked, sizeof stocked, sizeof stocked);
+    writes((struct call){WITHDRAW, stocked, sizeof stocked, 1, 1}, less, sizeof less, sizeof less);
+    writes((struct call){WITHDRAW, stocked, sizeof stocked, 1, 240}, two, sizeof two, sizeof two);
+    writes((struct call){MAKE_EITHER, two, sizeof two, 4, 0}, no_polyester, sizeof no_polyester, sizeof no_polyester);
+    writes((struct call){LEAVE, no_polyester, sizeof no_polyester, 4, 0}, two, sizeof two, sizeof two);
+    writes((struct call){ENTER, no_polyester, sizeof no_polyester, 4, 0}, three, sizeof three, sizeof three);
+    writes((struct call){ENTER, paired, sizeof paired, 10, 0}, in10, sizeof in10, sizeof in10);
+    writes((struct call){MAKE_EITHER, paired, sizeof paired, 5, 0}, either5, sizeof either5, sizeof either5);
+    writes((struct call){COPY, carriers, sizeof carriers, 0, 0}, carriers, sizeof carriers, sizeof carriers);
+    writes((struct call){COPY, stocked, sizeof stocked, 0, 0}, stocked, sizeof stocked, sizeof stocked);
+    writes((struct call){COPY, no_polyester, sizeof no_polyester, 0, 0}, no_polyester, sizeof no_polyester, sizeof no_polyester);
+    writes((struct call){COPY, paired, sizeof paired, 0, 0}, paired, sizeof paired, sizeof paired);
+}
+
+/* The same standings without a profile may change. */
+static void changes_without_profile(void)
+{
+    static const uint8_t in0[] = {3, 1, 0, 0, 4, 0, 3, 5, 6, 7, 0, 0}, out7[] = {3, 0, 0, 4, 0, 0, 3, 5, 6, 0, 0};
+    size_t n = sizeof carriers - 3;
+    writes((struct call){COPY, carriers, n, 0, 0}, carriers, n, n);
+    writes((struct call){ENTER, carriers, n, 0, 0}, in0, sizeof in0, sizeof in0);
+    writes((struct call){LEAVE, carriers, n, 7, 0}, out7, sizeof out7, sizeof out7);
+    refuses((struct call){MAKE_EITHER, carriers, n, 7, 0}, VAULT_STANDING, 0);
+}
+
+/* What breaks the profile stays either: 12 comes after 2 and before 3. What does not is refused as on any sheet. */
+static void refusals_of_carriers(void)
+{
+    static const uint8_t broken[] = {0, 3, 5, 6, 7}, full_under[] = {2, 0, 0, 2, 0, 0, 3, 1, 0, 1, 0x00, 0x28, 0x6b, 0xee, 1, 0, 3};
+    static const uint64_t beyond[] = {8, 9, 255, 256, 256 + 3, UINT64_C(0x100000000), UINT64_C(0x100000003), UINT64_MAX};
+    for (enum entry e = ENTER; e <= MAKE_EITHER; e++) {
+        for (size_t i = 0; i < sizeof broken; i++)
+            refuses((struct call){e, stocked, sizeof stocked, broken[i], 0}, VAULT_EITHER, 0);
+        for (size_t i = 0; i < sizeof beyond / sizeof *beyond; i++)
+            refuses((struct call){e, stocked, sizeof stocked, beyond[i], 0}, VAULT_COMBINATION, 0);
+        refuses((struct call){e, full_under, sizeof full_under, 0, 0}, VAULT_EITHER, 0);
+        refuses((struct call){e, paired, sizeof paired, 7, 0}, VAULT_EITHER, 0);
+    }
+    refuses((struct call){ENTER, stocked, sizeof stocked, 2, 0}, VAULT_STANDING, 0);
+    refuses((struct call){LEAVE, stocked, sizeof stocked, 4, 0}, VAULT_STANDING, 0);
+    refuses((struct call){MAKE_EITHER, no_polyester, sizeof no_polyester, 4, 0}, VAULT_STANDING, 0);
+    refuses((struct call){MAKE_EITHER, stocked, sizeof stocked, 1, 0}, VAULT_EITHER, 0);
+    for (size_t i = 0; i < sizeof broken; i++) {
+        refuses((struct call){RECEIVE, stocked, sizeof stocked, broken[i], 0}, VAULT_AMOUNT, 0);
+        refuses((struct call){RECEIVE, stocked, sizeof stocked, broken[i], 1}, VAULT_EITHER, 0);
+        refuses((struct call){WITHDRAW, stocked, sizeof stocked, broken[i], 36000}, VAULT_AMOUNT, 0);
+        refuses((struct call){WITHDRAW, stocked, sizeof stocked, broken[i], 1}, VAULT_BELOW, 0);
+    }
+    refuses((struct call){RECEIVE, no_polyester, sizeof no_polyester, 4, 1}, VAULT_EITHER, 0);
+    refuses((struct call){RECEIVE, stocked, sizeof stocked, 8, 0}, VAULT_COMBINATION, 0);
+    refuses((struct call){RECEIVE, full_under, sizeof full_under, 3, 1}, VAULT_EITHER, 0);
+    refuses((struct call){RECEIVE, full_under, sizeof full_under, 2, 1}, VAULT_ABOVE, 0);
+}
+
+/* A class change under a profile of a combination that stands so: the entries and the standings are in one order, in, out and either. */
+static void change_under(const struct profile *p, enum entry e, uint64_t c, int standing)
+{
+    uint8_t form[VAULT_FORM_SIZE], want[VAULT_FORM_SIZE];
+    int to = (int)e - ENTER, beyond = c >= VAULT_COMBINATIONS(p->marks);
+    uint32_t own = beyond ? 0 : UINT32_C(1) << c, broken = breaking(p->marks, p->groups, p->n);
+    size_t n = drawn_under(form, p, standing == 0 ? own : 0, standing == 2 ? broken | own : broken);
+    size_t size = drawn_under(want, p, to == 0 ? own : 0, to == 2 ? broken | own : broken);
+    uint64_t answer = beyond ? VAULT_COMBINATION : (broken & own) != 0 ? VAULT_EITHER : to == standing ? VAULT_STANDING : VAULT_DONE;
+    struct area *a = lent(VAULT_FORM_SIZE);
+    struct call call = {e, form, n, c, 0};
+    size = answer == VAULT_DONE ? size : 0;
+    check(is(made(&call, a->p, a->n), answer, 0, size) && holds(a, want, size), "a change under a profile", (long)c);
+}
+
+/* Of every combination, however it may stand: what breaks the profile stands in one way alone; and of numbers that are none. */
+static void changes_under(const struct profile *p)
+{
+    uint32_t broken = breaking(p->marks, p->groups, p->n);
+    for (enum entry e = ENTER; e <= MAKE_EITHER; e++) {
+        for (uint64_t c = 0; c < VAULT_COMBINATIONS(p->marks); c++)
+            for (int standing = broken >> c & 1 ? 2 : 0; standing <= 2; standing++)
+                change_under(p, e, c, standing);
+        change_under(p, e, VAULT_COMBINATIONS(p->marks), 1);
+        change_under(p, e, UINT64_C(0x100000000), 1);
+    }
+}
+
+/* A receipt and a withdrawal on an opened sheet. */
+static void movements_under(const struct profile *p)
+{
+    uint8_t form[VAULT_FORM_SIZE];
+    size_t n = opened_under(form, p), tail = 2 + p->n;
+    for (uint64_t c = 0; c < VAULT_COMBINATIONS(p->marks); c++) {
+        int breaks = (int)(breaking(p->marks, p->groups, p->n) >> c & 1);
+        struct area *a = lent(VAULT_FORM_SIZE);
+        check(is(vault_withdraw(form, n, c, 1, a->p, a->n), VAULT_BELOW, 0, 0) && untouched(a), "a withdrawal under a profile", (long)c);
+        struct vault_reply r = vault_receive(form, n, c, 1, a->p, a->n);
+        if (breaks)
+            check(is(r, VAULT_EITHER, 0, 0) && untouched(a), "a receipt to what breaks the profile", (long)c);
+        else
+            check(is(r, VAULT_DONE, 0, n + 5) && memcmp(a->p + n + 5 - tail, form + n - tail, tail) == 0, "a receipt keeps the profile", (long)c);
+    }
+}
+
+/* What may be wrong with a profile behind a sheet, field by field. Up to the count of groups most are an opened sheet of marks 0 and 1. */
+static void faulty_ends(void)
+{
+    static const struct bad bad[] = {
+        /* it ends early; what is cut short is not judged */
+        {{1, 0, 0, 0, 0, 0, 0, 0}, 8, 10, 8},
+        {{2, 0, 0, 2, 0, 0, 3, 0, 0, 0}, 10, 10, 10},
+        {{2, 0, 0, 2, 0, 0, 3, 0, 0, 1}, 10, 10, 10},
+        {{2, 0, 0, 2, 0, 0, 3, 0, 0, 255}, 10, 10, 10},
+        {{2, 0, 0, 2, 0, 0, 3, 0, 0, 1, 0}, 11, 10, 11},
+        {{2, 0, 0, 2, 0, 0, 3, 0, 0, 2, 0}, 11, 10, 11},
+        {{2, 0, 0, 2, 0, 0, 3, 0, 0, 2, 0, 3}, 12, 10, 12},
+        /* the count, whatever stands behind it */
+        {{1, 0, 0, 0, 0, 0, 0, 0, 0}, 9, 10, 7},
+        {{2, 0, 0, 2, 0, 0, 3, 0, 0, 0, 0}, 11, 10, 9},
+        {{2, 0, 0, 2, 0, 0, 3, 0, 0, 0, 0, 3}, 12, 10, 9},
+        {{2, 0, 0, 2, 0, 0, 3, 0, 0, 3, 0}, 11, 10, 9},
+        {{2, 0, 0, 2, 0, 0, 3, 0, 0, 3, 0, 3, 3, 3}, 14, 10, 9},
+        {{2, 0, 0, 2, 0, 0, 3, 0, 0, 0, 1, 3}, 12, 10, 9},
+        {{2, 0, 0, 2, 0, 0, 3, 0, 0, 1, 1, 3}, 12, 10, 9},
+        {{2, 0, 0, 2, 0, 0, 3, 0, 0, 2, 1, 3, 3}, 13, 10, 9},
+        {{2, 0, 0, 2, 0, 0, 3, 0, 0, 255, 255}, 11, 10, 9},
+        /* a group: fewer than two marks, a mark that there is not, a mark of the one before */
+        {{2, 0, 0, 2, 0, 0, 3, 0, 0, 1, 0, 0}, 12, 10, 11},
+        {{2, 0, 0, 2, 0, 0, 3, 0, 0, 1, 0, 2}, 12, 10, 11},
+        {{2, 0, 0, 2, 0, 0, 3, 0, 0, 1, 0, 7}, 12, 10, 11},
+        {{2, 0, 0, 2, 0, 0, 3, 0, 0, 1, 0, 0x83}, 12, 10, 11},
+        {{2, 0, 0, 2, 0, 0, 3, 0, 0, 2, 0, 1}, 12, 10, 11},
+        {{2, 0, 0, 2, 0, 0, 3, 0, 0, 2, 0, 0, 3}, 13, 10, 11},
+        {{2, 0, 0, 2, 0, 0, 3, 0, 0, 2, 0, 3, 0}, 13, 10, 12},
+        {{2, 0, 0, 2, 0, 0, 3, 0, 0, 2, 0, 3, 3}, 13, 10, 12},
+        {{2, 0, 0, 2, 0, 0, 3, 0, 0, 2, 0, 3, 12}, 13, 10, 12},
+        {{1, 0, 0, 0, 0, 0, 0, 1, 0, 3}, 10, 10, 9},
+        {{3, 0, 0, 0, 0, 0, 0, 2, 0, 3, 6}, 11, 10, 10},
+        /* a combination that breaks it: in the class, out, out and holding something, all of them out */
+        {{2, 1, 0, 0, 1, 0, 3, 0, 0, 1, 0, 3}, 12, 10, 9},
+        {{2, 1, 0, 3, 1, 0, 0, 0, 0, 1, 0, 3}, 12, 10, 9},
+        {{2, 0, 0, 1, 0, 3, 0, 0, 1, 0, 3}, 11, 10, 8},
+        {{2, 0, 0, 1, 0, 0, 0, 0, 1, 0, 3}, 11, 10, 8},
+        {{2, 0, 0, 1, 0, 3, 1, 0, 0, 5, 0, 0, 0, 1, 0, 3}, 16, 10, 13},
+        {{2, 0, 0, 0, 0, 0, 0, 1, 0, 3}, 10, 10, 7},
+        /* behind a faulty group and one that is missing, and before what is left over */
+        {{2, 0, 0, 0, 0, 0, 0, 1, 0, 7}, 10, 10, 9},
+        {{2, 0, 0, 0, 0, 0, 0, 1, 0}, 9, 10, 9},
+        {{4, 0, 0, 0, 0, 0, 0, 2, 0, 3}, 10, 10, 10},
+        {{4, 0, 0, 0, 0, 0, 0, 2, 0, 3, 6}, 11, 10, 10},
+        {{4, 0, 0, 0, 0, 0, 0, 2, 0, 3, 12}, 11, 10, 7},
+        {{2, 0, 0, 0, 0, 0, 0, 1, 0, 3, 0}, 11, 10, 7},
+        /* what is left over */
+        {{2, 0, 0, 2, 0, 0, 3, 0, 0, 1, 0, 3, 0}, 13, 10, 12},
+        {{2, 0, 0, 2, 0, 0, 3, 0, 0, 1, 0, 3, 1, 0, 3}, 15, 10, 12},
+    };
+    unreadable_sheets(bad, sizeof bad / sizeof *bad);
+}
+
+/* A form of which any number of bytes is cut off: where they are just its profile, a sheet without one is left. */
+static void cut_forms(const uint8_t *form, size_t n, size_t plain)
+{
+    for (size_t k = 0; k < n; k++)
+        if (k == plain)
+            writes((struct call){COPY, form, k, 0, 0}, form, k, k);
+        else
+            refuses((struct call){COPY, form, k, 0, 0}, VAULT_UNREADABLE, k);
+}
+
+/* What reading answers to bytes behind a sheet of so many marks with these either combinations, which has n bytes: from the rules, field by field. */
+static struct vault_reply end_recounted(uint64_t marks, uint32_t either, size_t n, const uint8_t *end, size_t size)
+{
+    const struct vault_reply early = {VAULT_UNREADABLE, n + size, 0}, count = {VAULT_UNREADABLE, n, 0};
+    size_t groups = size < 2 ? 0 : end[0] + (size_t)256 * end[1];
+    if (size == 0)
+        return (struct vault_reply){VAULT_DONE, 0, n};
+    if (size < 2)
+        return early;
+    if (groups != 1 && groups != 2)
+        return count;
+    for (size_t k = 0; k < groups; k++) {
+        if (size < 3 + k)
+            return early;
+        if (!is_profile(marks, end + 2, k + 1))
+            return (struct vault_reply){VAULT_UNREADABLE, n + 2 + k, 0};
+    }
+    if ((breaking(marks, end + 2, groups) & ~either) != 0)
+        return count;
+    if (size > 2 + groups)
+        return (struct vault_reply){VAULT_UNREADABLE, n + 2 + groups, 0};
+    return (struct vault_reply){VAULT_DONE, 0, n + size};
+}
+
+/* Bytes behind a sheet are read so, and what is read is written again. */
+static void ends(uint64_t marks, uint32_t class, uint32_t either, const uint8_t *end, size_t size)
+{
+    uint8_t form[VAULT_FORM_SIZE];
+    size_t n = drawn_with(form, marks, class, either);
+    struct vault_reply want = end_recounted(marks, either, n, end, size);
+    memcpy(form + n, end, size);
+    struct area *a = lent(VAULT_FORM_SIZE);
+    struct vault_reply r = vault_copy(form, n + size, a->p, a->n);
+    check(is(r, want.answer, want.place, want.value) && holds(a, form, (size_t)want.value), "what stands behind a sheet", (long)want.place);
+}
+
+/* Every two groups, and the first of them alone, behind a sheet of which all are either; with a byte left over, and with one fewer than the count says. */
+static void every_end(uint64_t marks)
+{
+    uint32_t all = (uint32_t)((UINT64_C(1) << VAULT_COMBINATIONS(marks)) - 1);
+    for (unsigned pair = 0; pair < 256 * 256; pair++) {
+        uint8_t end[] = {2, 0, (uint8_t)(pair / 256), (uint8_t)(pair % 256), 0};
+        ends(marks, 0, all, end, 4);
+        if (pair % 256 == 0) {
+            ends(marks, 0, all, end, 3);
+            end[0] = 1;
+            ends(marks, 0, all, end, 3);
+            ends(marks, 0, all, end, 4);
+        }
+        if (is_profile(marks, end + 2, 2))
+            ends(marks, 0, all, end, 5);
+    }
+}
+
+/* A profile behind the sheet that is opened under it: with every count, cut off anywhere, and with bytes left over. */
+static void ends_under(const struct profile *p)
+{
+    uint32_t broken = breaking(p->marks, p->groups, p->n);
+    uint8_t end[8] = {(uint8_t)p->n, 0, p->groups[0], p->groups[1], 3, 0, 0, 1};
+    for (size_t size = 0; size <= sizeof end; size++)
+        ends(p->marks, 0, broken, end, size);
+    for (unsigned count = 0; count < 256; count++) {
+        end[0] = (uint8_t)count;
+        end[1] = 0;
+        ends(p->marks, 0, broken, end, 2 + p->n);
+        end[0] = (uint8_t)p->n;
+        end[1] = (uint8_t)count;
+        ends(p->marks, 0, broken, end, 2 + p->n);
+    }
+}
+
+/* A profile behind sheets that fit another, or in which one combination stands in the class, out or either; and a sheet of which none is either. */
+static void fits(const struct profile *p)
+{
+    uint32_t broken = breaking(p->marks, p->groups, p->n);
+    uint8_t end[] = {(uint8_t)p->n, 0, p->groups[0], p->groups[1]};
+    for (size_t i = 0; i < profiles; i++)
+        if (every_profile[i].marks == p->marks)
+            ends(p->marks, 0, breaking(p->marks, every_profile[i].groups, every_profile[i].n), end, 2 + p->n);
+    for (uint32_t c = 0; c < VAULT_COMBINATIONS(p->marks); c++) {
+        uint32_t own = UINT32_C(1) << c;
+        ends(p->marks, own, broken & ~own, end, 2 + p->n);
+        ends(p->marks, 0, broken & ~own, end, 2 + p->n);
+        ends(p->marks, 0, broken | own, end, 2 + p->n);
+    }
+    ends(p->marks, 0, 0, end, 2 + p->n);
+}
+
+/* Lists under a profile, worked out by hand. What breaks it may be in a line, and need not be. */
+static void lists_under(void)
+{
+    static const struct {
+        struct profile p;
+        uint32_t class, either;
+        size_t lines;
+        uint8_t list[2];
+    } t[] = {
+        /* one of three carriers: none, each, each two, all three */
+        {{3, 1, {7}}, 0x00, 0, 0, {0}},
+        {{3, 1, {7}}, 0x02, 0, 1, {1}},
+        {{3, 1, {7}}, 0x04, 0, 1, {3}},
+        {{3, 1, {7}}, 0x10, 0, 1, {9}},
+        {{3, 1, {7}}, 0x06, 0, 1, {8}},
+        {{3, 1, {7}}, 0x12, 0, 1, {20}},
+        {{3, 1, {7}}, 0x14, 0, 1, {24}},
+        {{3, 1, {7}}, 0x16, 0, 1, {26}},
+        /* and one or two of them either, beside those that are so always */
+        {{3, 1, {7}}, 0x06, 0x10, 1, {8}},
+        {{3, 1, {7}}, 0x02, 0x14, 1, {1}},
+        {{3, 1, {7}}, 0x00, 0x16, 0, {0}},
+        /* one of two marks: 01 and 10 are in the class, or one of them; 11 and 00 are either */
+        {{2, 1, {3}}, 0x2, 0, 1, {1}},
+        {{2, 1, {3}}, 0x6, 0, 1, {8}},
+        /* two groups: 0101; 01--; 0101 and 1010, in which no line of both is without 0110; 01-- and 1001; all */
+        {{4, 2, {3, 12}}, 0x0020, 0, 1, {10}},
+        {{4, 2, {3, 12}}, 0x0060, 0, 1, {17}},
+        {{4, 2, {3, 12}}, 0x0420, 0, 2, {10, 30}},
+        {{4, 2, {12, 3}}, 0x0420, 0, 2, {10, 30}},
+        {{4, 2, {3, 12}}, 0x0260, 0, 2, {17, 28}},
+        {{4, 2, {3, 12}}, 0x0660, 0, 1, {80}},
+        /* carriers, and two more marks: nitrate with mark 3; not on polyester; with a group of the two, 010-- and 10100 */
+        {{5, 1, {7}}, 0x02000200, 0, 1, {190}},
+        {{5, 1, {7}}, 0x06060606, 0, 1, {224}},
+        {{5, 2, {7, 24}}, 0x00100600, 0, 2, {35, 90}},
+    };
+    uint8_t form[VAULT_FORM_SIZE];
+    for (size_t i = 0; i < sizeof t / sizeof *t; i++) {
+        const struct profile *p = &t[i].p;
+        size_t n = drawn_under(form, p, t[i].class, t[i].either | breaking(p->marks, p->groups, p->n));
+        writes((struct call){LIST, form, n, 0, 0}, t[i].list, t[i].lines, VAULT_COMBINATIONS(p->marks));
+        check(judged(verdict(form, n, t[i].list, t[i].lines), VAULT_DONE, 0, VAULT_FITS, 0), "it fits under a profile", (long)i);
+    }
+}
+
+/* What is told of sheets under a profile: nitrate and acetate are in the class, polyester is out. */
+static void told_under(void)
+{
+    static const struct {
+        size_t n;
+        uint8_t list[3];
+        uint64_t fault, at;
+    } t[] = {
+        {1, {8}, VAULT_FITS, 0},       {2, {3, 1}, VAULT_FITS, 0},    {3, {1, 3, 13}, VAULT_FITS, 0},  {2, {8, 13}, VAULT_FITS, 0},
+        {2, {8, 4}, VAULT_OVERLAP, 1}, {1, {26}, VAULT_LEAVES, 0},    {3, {1, 3, 9}, VAULT_LEAVES, 2}, {1, {3}, VAULT_UNCOVERED, 1},
+        {1, {13}, VAULT_UNCOVERED, 1}, {2, {26, 27}, VAULT_NO_BOX, 1},
+    };
+    for (size_t i = 0; i < sizeof t / sizeof *t; i++)
+        check(judged(verdict(stocked, sizeof stocked, t[i].list, t[i].n), VAULT_DONE, 0, t[i].fault, t[i].at), "a list under a profile", (long)i);
+    for (uint64_t b = 0; b < VAULT_LINES(3); b++) {
+        uint64_t either = 0;
+        for (uint64_t c = 0; c < 8; c++)
+            either += has(3, b, c) && c != 1 && c != 2 && c != 4;
+        check(is(vault_outside(stocked, sizeof stocked, b), VAULT_DONE, 0, (uint64_t)has(3, b, 4)), "vault_outside under a profile", (long)b);
+        check(is(vault_either(stocked, sizeof stocked, b), VAULT_DONE, 0, either), "vault_either under a profile", (long)b);
+        check(is(vault_held(stocked, sizeof stocked, b), VAULT_DONE, 0, has(3, b, 1) ? 240 : 0), "vault_held under a profile", (long)b);
+    }
+    check(is(vault_class_size(stocked, sizeof stocked), VAULT_DONE, 0, 2), "class size under a profile", 0);
+    check(is(vault_total(stocked, sizeof stocked), VAULT_DONE, 0, 240), "total under a profile", 0);
+    writes((struct call){LIST, stocked, sizeof stocked, 0, 0}, (const uint8_t[]){8}, 1, 8);
+}
+
+/* PLA texts and old forms have no profile: behind an old form one is left over, and what is opened under one is no old form. */
+static void without_profile(void)
+{
+    static const uint8_t old[] = {3, 0, 0, 0, 0, 1, 0, 7};
+    uint8_t form[sizeof sample1 + 3] = {0};
+    text_with(stocked, sizeof stocked, ".i 3\n.o 1\n.p 1\n0-- 1\n.e\n", 0x0f);
+    text_with(carriers, sizeof carriers, ".i 3\n.o 1\n.p 0\n.e\n", 0);
+    text_with(paired, sizeof paired, ".i 4\n.o 1\n.p 0\n.e\n", 0);
+    for (size_t n = 6; n <= sizeof old; n++)
+        refuses((struct call){FROM_FORM1, old, n, 0, 0}, VAULT_UNREADABLE, 5);
+    memcpy(form, sample1, sizeof sample1);
+    memcpy(form + sizeof sample1, (const uint8_t[]){1, 0, 3}, 3);
+    refuses((struct call){FROM_FORM1, form, sizeof form, 0, 0}, VAULT_UNREADABLE, sizeof sample1);
+    /* five held combinations, of which the second, at 10, is again 0 */
+    refuses((struct call){FROM_FORM1, carriers, sizeof carriers, 0, 0}, VAULT_UNREADABLE, 10);
+}
+
+static void carrier_profiles(void)
+{
+    find_profiles();
+    known_profiles();
+    faulty_profiles();
+    for (uint64_t m = 0; m <= 6; m++)
+        every_opening(m);
+    many_groups();
+    changes_of_carriers();
+    changes_without_profile();
+    refusals_of_carriers();
+    faulty_ends();
+    cut_forms(carriers, sizeof carriers, sizeof carriers - 3);
+    cut_forms(stocked, sizeof stocked, sizeof stocked - 3);
+    cut_forms(paired, sizeof paired, sizeof paired - 4);
+    for (uint64_t m = 1; m <= 5; m++)
+        every_end(m);
+    for (size_t i = 0; i < profiles; i++) {
+        changes_under(&every_profile[i]);
+        movements_under(&every_profile[i]);
+        ends_under(&every_profile[i]);
+        fits(&every_profile[i]);
+    }
+    lists_under();
+    told_under();
+    without_profile();
+}
+
 /* Threads with the stack that the header names and some for the C library itself (or the least there is), each on its own areas. */
 static void *night(void *arg)
 {
@@ -1874,6 +2502,8 @@ static void *night(void *arg)
         wrong += vault_make_either(sample, sizeof sample, 2, form[!now], VAULT_FORM_SIZE).value != sizeof sample;
         wrong += vault_list(form[!now], sizeof sample, list, sizeof list).value != 1 || list[0] != 7;
         wrong += vault_from_form1(sample1, sizeof sample1, form[!now], VAULT_FORM_SIZE).value != sizeof sample;
+        wrong += vault_open_profile(3, (const uint8_t[]){7}, 1, form[!now], VAULT_FORM_SIZE).value != sizeof carriers;
+        wrong += memcmp(form[!now], carriers, sizeof carriers) != 0 || vault_list(two, sizeof two, list, sizeof list).value != 1 || list[0] != 8;
         struct vault_time time = seed % 2 ? vault_read_time("1:30:00", 7) : vault_read_time("90:00", 5);
         wrong += time.answer != VAULT_DONE || time.value != 5400 || time.form != (seed % 2 ? VAULT_IN_HOURS : VAULT_IN_MINUTES);
     }
@@ -1913,6 +2543,7 @@ int main(void)
     checking();
     times();
     pla();
+    carrier_profiles();
     threads();
     printf("boundary: %d checks, %d failed\n", checks, faults);
     return faults != 0;

@@ -1,6 +1,7 @@
 //! Compares the library with tests/model.rs: of every class of up to four marks, and up to three marks with every choice of either combinations, the
-//! list, the PLA text, that text read back, the list checked, and a list that someone else drew; then random calls of every entry. They go to a program
-//! that makes them (tests/driver.c), and its replies and all the bytes of the areas that were lent, with those around them, must be the model's.
+//! list, the PLA text, that text read back, the list checked, and a list that someone else drew; openings under every one and every two groups of marks, each
+//! change under every profile, and forms whose standings do and do not fit their profile; then random calls of every entry. They go to a program that makes
+//! them (tests/driver.c), and its replies and all the bytes of the areas that were lent, with those around them, must be the model's.
 //!
 //!     differential CALLS SEED PROGRAM WORD..
 //!
@@ -16,8 +17,8 @@ use std::io::{Read, Write};
 use std::process::{Child, Command, Stdio};
 
 #[rustfmt::skip]
-const NAMES: [&str; 19] = ["open", "enter", "leave", "receive", "withdraw", "copy", "list", "class_size", "total", "outside", "held", "before", "read_time",
-    "read_pla", "write_pla", "check_list", "make_either", "either", "from_form1"];
+const NAMES: [&str; 20] = ["open", "enter", "leave", "receive", "withdraw", "copy", "list", "class_size", "total", "outside", "held", "before", "read_time",
+    "read_pla", "write_pla", "check_list", "make_either", "either", "from_form1", "open_profile"];
 
 /// Lines that no PLA text of ours has, or that have a meaning of their own.
 #[rustfmt::skip]
@@ -79,6 +80,19 @@ impl Call {
 /// What is to be written to an area, or the refusal.
 type Written = Result<Vec<u8>, Reply>;
 
+/// The sheet behind a call that changes it; one that copies it does not.
+fn changed(entry: usize, mut sheet: Sheet, c: u64, seconds: u64) -> Result<Sheet, Reply> {
+    match entry {
+        1 => sheet.change(c, Standing::In)?,
+        2 => sheet.change(c, Standing::Out)?,
+        16 => sheet.change(c, Standing::Either)?,
+        3 => sheet.receive(c, seconds)?,
+        4 => sheet.withdraw(c, seconds)?,
+        _ => {}
+    }
+    Ok(sheet)
+}
+
 struct Tests {
     r: Random,
     lists: Lists,
@@ -111,12 +125,76 @@ impl Tests {
         }
     }
 
-    /// A sheet of any class, without either combinations or with a few or many, that may hold as much as a sheet can.
+    /// A profile of so many marks: the first marks of some order, and perhaps the next ones. There is none of a single mark.
+    fn profile(&mut self, marks: u32) -> Vec<u8> {
+        let mut order: Vec<u8> = (0..marks as u8).collect();
+        self.shuffle(&mut order);
+        let (mut left, mut groups) = (&order[..], Vec::new());
+        for _ in 0..self.r.of(&[1, 2]) {
+            if left.len() >= 2 {
+                let (group, rest) = left.split_at(2 + self.r.below(left.len() as u64 - 1) as usize);
+                groups.push(group.iter().map(|i| 1 << i).sum());
+                left = rest;
+            }
+        }
+        groups
+    }
+
+    /// Groups of marks: a profile mostly; else one that something was done to.
+    fn groups(&mut self, marks: u32) -> Vec<u8> {
+        let mut groups = self.profile(marks);
+        for _ in 0..self.r.of(&[0, 0, 1, 1, 2]) {
+            self.regroup(&mut groups);
+        }
+        groups
+    }
+
+    /// One thing done to groups: a mark more or fewer, a group more, fewer or twice, another one, another order, or many of them.
+    fn regroup(&mut self, groups: &mut Vec<u8>) {
+        let n = groups.len();
+        let (at, to) = (self.r.below(n as u64 + 1) as usize, self.r.below(n as u64 + 1) as usize);
+        let any = self.r.next() as u8;
+        let near = self.r.of(&[0, 1, 3, 6, 12, 24, 31, 32, 64, 128, 255]);
+        match self.r.below(10) {
+            0 => groups.insert(at, any),
+            1 => groups.insert(at, near),
+            2 => groups.clear(),
+            3 => self.many(groups, near),
+            _ if at == n => {}
+            4 | 5 => groups[at] ^= 1 << self.r.below(8),
+            6 => {
+                groups.remove(at);
+            }
+            7 => groups.insert(to, groups[at]),
+            8 => groups[at] = any,
+            _ => groups.swap(at, to % n),
+        }
+    }
+
+    /// More groups than any profile has, also so many that the low bits of their number are those of one or two.
+    fn many(&mut self, groups: &mut Vec<u8>, group: u8) {
+        let few = self.r.of(&[3, 4, 5, 32, 255, 256, 257, 258, 512, 513]);
+        let n = if self.r.one_in(8) { self.r.of(&[65_535, 65_536, 65_537, 65_538, 100_000]) } else { few };
+        groups.resize(n, group);
+    }
+
+    /// An opened sheet, under a profile or not.
+    fn opened(&mut self) -> Sheet {
+        let marks = self.r.of(&[1, 2, 3, 4, 5, 5]);
+        let groups = self.profile(marks as u32);
+        if groups.is_empty() || self.r.one_in(2) {
+            Sheet::open(marks).unwrap()
+        } else {
+            Sheet::open_profile(marks, &groups).unwrap()
+        }
+    }
+
+    /// A sheet of any class, without either combinations beside those that break its profile or with a few or many, that may hold as much as a sheet can.
     fn sheet(&mut self) -> Sheet {
-        let mut sheet = Sheet::open(self.r.of(&[1, 2, 3, 4, 5, 5])).unwrap();
+        let mut sheet = self.opened();
         let (dense, either, filled) = (self.r.below(101), self.r.of(&[0, 0, 10, 30, 60, 95]), self.r.of(&[0, 10, 50, 100]));
         for c in 0..sheet.standing.len() {
-            if self.r.below(100) < either {
+            if sheet.breaks(c) || self.r.below(100) < either {
                 sheet.standing[c] = Standing::Either;
                 continue;
             }
@@ -148,7 +226,8 @@ impl Tests {
         self.pool[at].clone()
     }
 
-    /// Bytes that are mostly a sheet's: as they are, or damaged in one place, or such that sections do not go together, or of the old form.
+    /// Bytes that are mostly a sheet's: as they are, or damaged in one place, or such that sections do not go together, or of the old form, or with something
+    /// else at the end.
     fn form(&mut self) -> Vec<u8> {
         let sheet = self.one_of_pool();
         if self.r.below(4) != 0 {
@@ -156,10 +235,11 @@ impl Tests {
         }
         let second = 3 + sheet.class_size() as usize;
         let third = second + 2 + sheet.standing_so(Standing::Either).len();
-        match self.r.below(18) {
+        match self.r.below(24) {
             0..=2 => self.clashing(&sheet),
             3 => sheet.form1(),
             4 => self.both_forms(),
+            5..=10 => self.other_end(sheet),
             _ => self.damaged(sheet.form(), &[1, second, third]),
         }
     }
@@ -168,10 +248,14 @@ impl Tests {
     fn old_form(&mut self) -> Vec<u8> {
         let sheet = self.one_of_pool();
         let second = 3 + sheet.class_size() as usize;
-        match self.r.below(12) {
+        match self.r.below(13) {
             0..=5 => sheet.form1(),
             6 => sheet.form(),
             7 => self.both_forms(),
+            8 => {
+                let groups = self.groups(sheet.marks);
+                laid(sheet.marks, &sheet.standing_so(Standing::In), None, &sheet.holding(), &groups)
+            }
             _ => self.damaged(sheet.form1(), &[1, second]),
         }
     }
@@ -187,7 +271,32 @@ impl Tests {
         }
         either.sort_unstable();
         either.dedup();
-        laid(sheet.marks, &class, Some(&either), &held)
+        laid(sheet.marks, &class, Some(&either), &held, &sheet.groups)
+    }
+
+    /// A form with other groups at the end, or the same, whether the standings fit them or not; perhaps with another count, cut off or with bytes behind.
+    fn other_end(&mut self, mut sheet: Sheet) -> Vec<u8> {
+        if sheet.groups.is_empty() || self.r.one_in(2) {
+            sheet.groups = self.groups(sheet.marks);
+        }
+        if self.r.one_in(2) {
+            let c = self.r.below(sheet.size()) as usize;
+            sheet.standing[c] = self.r.of(&[Standing::In, Standing::Out, Standing::Either]);
+        }
+        let mut form = sheet.form();
+        let plain = Sheet { groups: Vec::new(), ..sheet }.form().len();
+        let tail = (form.len() - plain) as u64;
+        match self.r.below(8) {
+            0 | 1 if tail > 0 => form[plain] = self.r.of(&[0, 1, 2, 3, 4, 255]),
+            2 if tail > 0 => form[plain + 1] = self.r.of(&[1, 2, 128, 255]),
+            3 if tail > 0 => form.truncate(plain + self.r.below(tail) as usize),
+            4 => {
+                let n = 1 + self.r.below(4);
+                form.extend(self.r.bytes(n));
+            }
+            _ => {}
+        }
+        form
     }
 
     /// Bytes that are a sheet in either form: three held combinations of the old one are three either combinations, a count, and two held ones.
@@ -201,10 +310,10 @@ impl Tests {
         class.sort_unstable();
         let [a, b, c, d, e] = self.r.of(&[[0, 1, 2, 3, 4], [0, 2, 4, 1, 3], [0, 3, 4, 1, 2], [0, 1, 4, 2, 3]]).map(|i: usize| five[i]);
         let seconds = u64::from(b) | u64::from(c) << 8 | 2 << 16;
-        laid(marks, class, None, &[(a, seconds), (d, 1 + self.r.below(9)), (e, 1 + self.r.below(9))])
+        laid(marks, class, None, &[(a, seconds), (d, 1 + self.r.below(9)), (e, 1 + self.r.below(9))], &[])
     }
 
-    /// A form damaged in one place. `counts` says where those of its sections stand; what is held is the last.
+    /// A form damaged in one place. `counts` says where those of its sections stand; what is held is the last, but for a profile.
     fn damaged(&mut self, mut form: Vec<u8>, counts: &[usize]) -> Vec<u8> {
         let n = form.len() as u64;
         let i = self.r.below(n) as usize;
@@ -228,7 +337,7 @@ impl Tests {
             }
             12 => return self.heavy(counts[counts.len() - 1], form),
             _ => {
-                let m = self.r.of(&[0, 0, 1, 2, 3, 4, 5, 6, 7, 8, 20, 197, 199, 2000]);
+                let m = self.r.of(&[0, 0, 1, 2, 3, 4, 5, 6, 7, 8, 20, 197, 199, 203, 2000]);
                 form = self.r.bytes(m);
                 if let Some(b) = form.first_mut() {
                     *b %= 7;
@@ -256,7 +365,7 @@ impl Tests {
             0 => self.r.below(needed as u64 + 1),
             1 => self.r.below(250),
             2 => 0,
-            3 => self.r.of(&[197, 199]),
+            3 => self.r.of(&[197, 199, 203]),
             _ => (needed as u64 + self.r.below(7)).saturating_sub(3),
         };
         self.r.bytes(n)
@@ -295,6 +404,23 @@ impl Tests {
         self.writing(0, [marks, 0], None, written, 7, room)
     }
 
+    fn open_profile(&mut self) -> Call {
+        let marks = self.number(6);
+        let groups = self.groups(marks.min(5) as u32);
+        let written = Sheet::open_profile(marks, &groups).map(|s| s.form());
+        let needed = written.as_ref().map_or(20, Vec::len);
+        let room = self.room(needed);
+        self.writing(19, [marks, 0], Some(groups), written, needed, room)
+    }
+
+    /// An opening under these groups, into an area of just the size.
+    fn opening_of(&mut self, marks: u64, groups: &[u8]) -> Call {
+        let written = Sheet::open_profile(marks, groups).map(|s| s.form());
+        let needed = written.as_ref().map_or(0, Vec::len);
+        let room = self.r.bytes(needed as u64);
+        self.writing(19, [marks, 0], Some(groups.to_vec()), written, needed, room)
+    }
+
     /// One of the calls that change a sheet. What was accepted takes the old sheet's place among those that later calls are made on.
     fn change(&mut self, entry: usize) -> Call {
         let form = self.form();
@@ -302,24 +428,24 @@ impl Tests {
         let like = read.clone().unwrap_or(self.pool[0].clone());
         let c = self.number(like.size());
         let seconds = self.seconds(&like, c);
-        let mut sheet = like;
-        let changed = read.map(|_| ()).and_then(|()| match entry {
-            1 => sheet.change(c, Standing::In),
-            2 => sheet.change(c, Standing::Out),
-            16 => sheet.change(c, Standing::Either),
-            3 => sheet.receive(c, seconds),
-            4 => sheet.withdraw(c, seconds),
-            _ => Ok(()),
-        });
-        let written = changed.map(|()| sheet.form());
+        let changed = read.and_then(|sheet| changed(entry, sheet, c, seconds));
+        let written = changed.as_ref().map(Sheet::form).map_err(|&refusal| refusal);
         let needed = written.as_ref().map_or(60, Vec::len);
         let room = self.room(needed);
         let call = self.writing(entry, [c, seconds], Some(form), written, needed, room);
-        if call.reply.answer == 0 {
+        if let (0, Ok(sheet)) = (call.reply.answer, changed) {
             let at = self.r.below(self.pool.len() as u64) as usize;
             self.pool[at] = sheet;
         }
         call
+    }
+
+    /// A change of what is in these bytes, into an area of just the size.
+    fn change_of(&mut self, entry: usize, form: Vec<u8>, c: u64, seconds: u64) -> Call {
+        let written = Sheet::read(&form).and_then(|sheet| changed(entry, sheet, c, seconds)).map(|s| s.form());
+        let needed = written.as_ref().map_or(0, Vec::len);
+        let room = self.r.bytes(needed as u64);
+        self.writing(entry, [c, seconds], Some(form), written, needed, room)
     }
 
     fn from_form1(&mut self) -> Call {
@@ -743,6 +869,14 @@ impl Tests {
         self.telling(15, [0, 0], vec![form, list], reply)
     }
 
+    /// The list of a class, its PLA text, that text read back, and two checks.
+    fn lists_of(&mut self, sheet: &Sheet) -> Vec<Call> {
+        let mut calls = vec![self.list_of(sheet)];
+        calls.extend(self.pla_of(sheet));
+        calls.extend(self.checks_of(sheet));
+        calls
+    }
+
     /// The list of a class checked, and one that someone else drew.
     fn checks_of(&mut self, sheet: &Sheet) -> [Call; 2] {
         let own = self.lists.first_shortest(sheet);
@@ -753,7 +887,8 @@ impl Tests {
     }
 
     fn call(&mut self) -> Call {
-        match self.r.below(53) {
+        match self.r.below(56) {
+            53..=55 => self.open_profile(),
             40..=45 => self.check_list(),
             46..=48 => self.change(16),
             49..=50 => self.told(17),
@@ -790,9 +925,95 @@ fn every(marks: u64, standings: &'static [Standing]) -> impl Iterator<Item = She
     })
 }
 
+const STANDINGS: [Standing; 3] = [Standing::Out, Standing::In, Standing::Either];
+
 /// Every sheet of one to three marks that holds nothing, and every one of four marks without either combinations.
 fn every_sheet() -> impl Iterator<Item = Sheet> {
-    (1..=3).flat_map(|marks| every(marks, &[Standing::Out, Standing::In, Standing::Either])).chain(every(4, &[Standing::Out, Standing::In]))
+    (1..=3).flat_map(|marks| every(marks, &STANDINGS)).chain(every(4, &STANDINGS[..2]))
+}
+
+/// No group, every one, and every two of them.
+fn every_groups() -> impl Iterator<Item = Vec<u8>> {
+    let pairs = (0..=255).flat_map(|first| (0..=255).map(move |second| vec![first, second]));
+    std::iter::once(Vec::new()).chain((0..=255).map(|group| vec![group])).chain(pairs)
+}
+
+/// A sheet opened under every profile of these marks.
+fn every_profile(marks: u64) -> impl Iterator<Item = Sheet> {
+    every_groups().filter_map(move |groups| Sheet::open_profile(marks, &groups).ok())
+}
+
+/// Sheets with every profile at the end of their form, which it may not fit: up to three marks all of them, above that each in which one combination that
+/// breaks the profile is not either.
+fn every_fit() -> impl Iterator<Item = Sheet> {
+    let all = |like: Sheet| every(u64::from(like.marks), &STANDINGS).map(move |sheet| Sheet { groups: like.groups.clone(), ..sheet });
+    let one = |like: Sheet| {
+        let breaking: Vec<usize> = (0..like.standing.len()).filter(|&c| like.breaks(c)).collect();
+        breaking.into_iter().flat_map(move |c| {
+            [Standing::In, Standing::Out].map(|standing| {
+                let mut sheet = like.clone();
+                sheet.standing[c] = standing;
+                sheet
+            })
+        })
+    };
+    (1..=3).flat_map(every_profile).flat_map(all).chain((4..=5).flat_map(every_profile).flat_map(one))
+}
+
+/// A sheet that is opened under a profile, and three in which the other combinations stand by turns, in the last of which they hold something.
+fn by_turns(opened: &Sheet) -> [Sheet; 4] {
+    let others: Vec<usize> = (0..opened.standing.len()).filter(|&c| !opened.breaks(c)).collect();
+    let turned = |turn: usize| {
+        let mut sheet = opened.clone();
+        for (i, &c) in others.iter().enumerate() {
+            sheet.standing[c] = STANDINGS[(i + turn) % 3];
+            sheet.held[c] = if turn == 2 && sheet.standing[c] != Standing::Either { 1 + i as u64 } else { 0 };
+        }
+        sheet
+    };
+    [opened.clone(), turned(0), turned(1), turned(2)]
+}
+
+/// What is compared in full, before the random calls.
+enum Whole {
+    /// A sheet, by its lists.
+    Sheet(Sheet),
+    /// An opening under groups.
+    Opening(u64, Vec<u8>),
+    /// A profile, by the sheet that is opened under it: every change of it.
+    Profile(Sheet),
+    /// A sheet with groups at the end of its form, which its standings fit or not.
+    Fit(Sheet),
+}
+
+fn whole() -> impl Iterator<Item = Whole> {
+    let openings = (0..=6).flat_map(|marks| every_groups().map(move |groups| Whole::Opening(marks, groups)));
+    let profiles = (1..=5).flat_map(every_profile).map(Whole::Profile);
+    every_sheet().map(Whole::Sheet).chain(openings).chain(profiles).chain(every_fit().map(Whole::Fit))
+}
+
+impl Tests {
+    /// Every change of every combination, and of a number that is none, of the sheets under a profile; and their lists.
+    fn under_profile(&mut self, opened: &Sheet) -> Vec<Call> {
+        let mut calls = Vec::new();
+        for sheet in by_turns(opened) {
+            for c in 0..=sheet.size() {
+                calls.extend([1, 2, 16, 3, 4].map(|entry| self.change_of(entry, sheet.form(), c, 1)));
+            }
+            calls.push(self.change_of(5, sheet.form(), 0, 0));
+            calls.extend(self.lists_of(&sheet));
+        }
+        calls
+    }
+
+    fn calls_of(&mut self, whole: Whole) -> Vec<Call> {
+        match whole {
+            Whole::Sheet(sheet) => self.lists_of(&sheet),
+            Whole::Opening(marks, groups) => vec![self.opening_of(marks, &groups)],
+            Whole::Profile(opened) => self.under_profile(&opened),
+            Whole::Fit(sheet) => vec![self.change_of(5, sheet.form(), 0, 0)],
+        }
+    }
 }
 
 fn exchange(child: &mut Child, batch: &[Call]) -> std::io::Result<Vec<u8>> {
@@ -842,6 +1063,91 @@ fn stop(why: &str) -> ! {
     std::process::exit(1)
 }
 
+/// What was compared, by the entry and its answer, and of what is in the replies beside that.
+struct Counts {
+    answers: [[u64; 14]; NAMES.len()],
+    forms: [u64; 3],
+    faults: [u64; 5],
+    /// By the variants of `Whole`.
+    whole: [u64; 4],
+}
+
+impl Counts {
+    fn begin(&mut self, whole: &Whole) {
+        let kind = match whole {
+            Whole::Sheet(_) => 0,
+            Whole::Opening(..) => 1,
+            Whole::Profile(_) => 2,
+            Whole::Fit(_) => 3,
+        };
+        self.whole[kind] += 1;
+    }
+
+    fn add(&mut self, call: &Call) {
+        self.answers[call.entry][call.reply.answer as usize] += 1;
+        self.forms[call.reply.form as usize] += 1;
+        if NAMES[call.entry] == "check_list" && call.reply.answer == 0 {
+            self.faults[call.reply.fault as usize] += 1;
+        }
+    }
+
+    fn made(&self) -> u64 {
+        self.answers.iter().flatten().sum()
+    }
+
+    fn print(&self, calls: u64, seed: u64) {
+        for (name, answers) in NAMES.iter().zip(&self.answers) {
+            let given: Vec<String> = (0..answers.len()).filter(|&a| answers[a] > 0).map(|a| format!("{a}: {}", answers[a])).collect();
+            println!("vault_{name:<12}{:>7} calls, by answer {}", answers.iter().sum::<u64>(), given.join(", "));
+        }
+        println!("running times that were read: {} in minutes, {} in hours", self.forms[MINUTES as usize], self.forms[HOURS as usize]);
+        let [fit, no_box, overlap, leaves, uncovered] = [FITS, NO_BOX, OVERLAP, LEAVES, UNCOVERED].map(|f| self.faults[f as usize]);
+        println!(
+            "lists that were checked: {fit} fit, {no_box} have no box, {overlap} overlap, {leaves} leave the class, {uncovered} do not cover it"
+        );
+        let [sheets, openings, profiles, fits] = self.whole;
+        println!("profiles: {openings} openings, every change under the {profiles} that there are, {fits} forms that fit theirs or do not");
+        println!(
+            "differential: all {sheets} sheets of up to three marks, and of four without either combinations, all profiles, and {calls} random calls \
+             compared, no difference (seed {seed})"
+        );
+    }
+}
+
+/// The calls of a batch: what is compared in full, and then random ones, of which so many are left.
+fn batch(tests: &mut Tests, whole: &mut impl Iterator<Item = Whole>, counts: &mut Counts, left: &mut u64) -> Vec<Call> {
+    let mut batch: Vec<Call> = Vec::new();
+    while batch.len() < 512 && batch.iter().map(Call::size).sum::<usize>() < MOST_BYTES {
+        match whole.next() {
+            Some(whole) => {
+                counts.begin(&whole);
+                batch.extend(tests.calls_of(whole));
+            }
+            None if *left == 0 => break,
+            None => {
+                *left -= 1;
+                batch.push(tests.call());
+            }
+        }
+    }
+    batch
+}
+
+/// Each reply must be the model's.
+fn compare(batch: &[Call], replies: &[u8], counts: &mut Counts) {
+    let mut rest = replies;
+    for call in batch {
+        let got = taken(call, &mut rest);
+        if got != Some((call.reply, call.later.clone())) {
+            stop(&format!("call {}, vault_{}, differs\n{call:x?}\ngot {got:x?}", counts.made() + 1, NAMES[call.entry]));
+        }
+        counts.add(call);
+    }
+    if !rest.is_empty() {
+        stop("the program says more than was asked");
+    }
+}
+
 fn main() {
     let words: Vec<String> = std::env::args().collect();
     if words.len() < 4 {
@@ -855,52 +1161,21 @@ fn main() {
         let sheet = tests.sheet();
         tests.pool.push(sheet);
     }
-    let mut counts = [[0u64; 13]; NAMES.len()];
-    let (mut forms, mut faults) = ([0u64; 3], [0u64; 5]);
-    let mut made = 0;
-    let (mut sheets, all) = (every_sheet(), every_sheet().count() as u64);
-    while made < 5 * all + calls {
-        let mut batch: Vec<Call> = Vec::new();
-        while batch.len() < 512 && batch.iter().map(Call::size).sum::<usize>() < MOST_BYTES && made + (batch.len() as u64) < 5 * all + calls {
-            match sheets.next() {
-                Some(sheet) => {
-                    batch.push(tests.list_of(&sheet));
-                    batch.extend(tests.pla_of(&sheet));
-                    batch.extend(tests.checks_of(&sheet));
-                }
-                None => batch.push(tests.call()),
-            }
+    let mut counts = Counts { answers: [[0; 14]; NAMES.len()], forms: [0; 3], faults: [0; 5], whole: [0; 4] };
+    let (mut whole, mut left) = (whole(), calls);
+    loop {
+        let batch = batch(&mut tests, &mut whole, &mut counts, &mut left);
+        if batch.is_empty() {
+            break;
         }
         let Ok(replies) = exchange(&mut child, &batch) else {
-            stop(&format!("the program ended behind call {made}, {:?}, by\n{:x?}", child.wait(), ending(&words[3..], &batch)));
+            stop(&format!("the program ended behind call {}, {:?}, by\n{:x?}", counts.made(), child.wait(), ending(&words[3..], &batch)));
         };
-        let mut rest = &replies[..];
-        for call in &batch {
-            made += 1;
-            let got = taken(call, &mut rest);
-            if got != Some((call.reply, call.later.clone())) {
-                stop(&format!("call {made}, vault_{}, differs\n{call:x?}\ngot {got:x?}", NAMES[call.entry]));
-            }
-            counts[call.entry][call.reply.answer as usize] += 1;
-            forms[call.reply.form as usize] += 1;
-            if NAMES[call.entry] == "check_list" && call.reply.answer == 0 {
-                faults[call.reply.fault as usize] += 1;
-            }
-        }
-        if !rest.is_empty() {
-            stop("the program says more than was asked");
-        }
+        compare(&batch, &replies, &mut counts);
     }
     drop(child.stdin.take());
     if !child.wait().is_ok_and(|s| s.success()) {
         stop("the program ended badly");
     }
-    for (name, answers) in NAMES.iter().zip(&counts) {
-        let given: Vec<String> = (0..answers.len()).filter(|&a| answers[a] > 0).map(|a| format!("{a}: {}", answers[a])).collect();
-        println!("vault_{name:<11}{:>7} calls, by answer {}", answers.iter().sum::<u64>(), given.join(", "));
-    }
-    println!("running times that were read: {} in minutes, {} in hours", forms[MINUTES as usize], forms[HOURS as usize]);
-    let [fit, no_box, overlap, leaves, uncovered] = [FITS, NO_BOX, OVERLAP, LEAVES, UNCOVERED].map(|f| faults[f as usize]);
-    println!("lists that were checked: {fit} fit, {no_box} have no box, {overlap} overlap, {leaves} leave the class, {uncovered} do not cover it");
-    println!("differential: all {all} sheets of up to three marks, and of four without either combinations, and {calls} random calls compared, no difference (seed {seed})");
+    counts.print(calls, seed);
 }

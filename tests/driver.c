@@ -12,11 +12,13 @@
 #include <stdlib.h>
 #include <string.h>
 #include <sys/mman.h>
+#include <unistd.h>
 
 enum { PAGE = 4096, ROOM = 32 * PAGE };
 
+/* The pages of an area are there twice, to be written to and to be read alone: an area of either kind takes no call of the system. */
 struct area {
-    uint8_t *room, *whole, *p; /* the pages, all the bytes that were sent, the area itself */
+    uint8_t *writable, *readable, *whole, *p; /* the pages, all the bytes that were sent, the area itself */
     size_t all, n;
 };
 
@@ -46,18 +48,23 @@ static uint64_t number(size_t n)
     return x;
 }
 
-static void map(struct area *a)
+/* Some pages of a file, between two that may not be touched. */
+static uint8_t *view(int file, int how)
 {
     uint8_t *p = mmap(NULL, ROOM + 2 * PAGE, PROT_NONE, MAP_PRIVATE | MAP_ANONYMOUS, -1, 0);
-    if (p == MAP_FAILED)
+    if (p == MAP_FAILED || mmap(p + PAGE, ROOM, how, MAP_SHARED | MAP_FIXED, file, 0) == MAP_FAILED)
         fail("no memory");
-    a->room = p + PAGE;
+    return p + PAGE;
 }
 
-static void protect(const struct area *a, int how)
+static void map(struct area *a)
 {
-    if (mprotect(a->room, ROOM, how) != 0)
-        fail("mprotect");
+    FILE *f = tmpfile();
+    if (f == NULL || ftruncate(fileno(f), ROOM) != 0)
+        fail("no memory");
+    a->writable = view(fileno(f), PROT_READ | PROT_WRITE);
+    a->readable = view(fileno(f), PROT_READ);
+    fclose(f);
 }
 
 static void lend(struct area *a, int written)
@@ -68,13 +75,11 @@ static void lend(struct area *a, int written)
     a->n = n;
     if (a->all > ROOM)
         fail("an area is too long");
-    protect(a, PROT_READ | PROT_WRITE);
-    a->whole = behind != 0 && before == 0 ? a->room : a->room + ROOM - a->all;
+    size_t from = behind != 0 && before == 0 ? 0 : ROOM - a->all;
     if (a->all != 0)
-        memcpy(a->whole, bytes(a->all), a->all);
+        memcpy(a->writable + from, bytes(a->all), a->all);
+    a->whole = (written ? a->writable : a->readable) + from;
     a->p = null ? NULL : a->whole + before;
-    if (!written)
-        protect(a, PROT_READ);
 }
 
 static uint8_t *put(uint8_t *to, uint64_t x, size_t n)
@@ -121,6 +126,7 @@ static uint8_t *call(uint8_t *to, struct area *s, struct area *t)
     case 16: r = vault_make_either(s->p, s->n, x, t->p, t->n); break;
     case 17: r = vault_either(s->p, s->n, x); break;
     case 18: r = vault_from_form1(s->p, s->n, t->p, t->n); break;
+    case 19: r = vault_open_profile(x, s->p, s->n, t->p, t->n); break;
     default: fail("no such entry");
     }
     to = put(put(put(to, r.answer, 8), r.place, 8), r.value, 8);

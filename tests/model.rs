@@ -1,5 +1,6 @@
 //! The rules of the library written a second time, for the tests alone: plainly, and by other means than the library's wherever there are any.
-//! A sheet here is how each combination stands and what it holds; nothing is kept for a line, all of it is worked out when asked for.
+//! A sheet here is how each combination stands, what it holds and the groups of its profile; nothing is kept for a line, all of it is worked out when asked
+//! for.
 
 use std::collections::{HashMap, HashSet};
 
@@ -19,6 +20,8 @@ pub struct Sheet {
     pub marks: u32,
     pub standing: Vec<Standing>,
     pub held: Vec<u64>,
+    /// The groups of the carrier profile, a bit for each mark; none, if the sheet has no profile.
+    pub groups: Vec<u8>,
 }
 
 #[derive(Clone, Copy, PartialEq, Eq, Debug, Default)]
@@ -51,6 +54,19 @@ pub fn contains(marks: u32, b: u64, c: u64) -> bool {
         let digit = b / 3u64.pow(i) % 3;
         digit == 2 || digit == c / 2u64.pow(i) % 2
     })
+}
+
+/// Whether each group names two marks at least, each of them one that a can has, and no mark is named twice.
+fn go_together(marks: u32, groups: &[u8]) -> bool {
+    let of = |group: u8| (0..8).filter(move |i| group >> i & 1 == 1);
+    let named: Vec<u32> = groups.iter().flat_map(|&group| of(group)).collect();
+    let different: HashSet<u32> = named.iter().copied().collect();
+    groups.iter().all(|&group| of(group).count() >= 2) && named.iter().all(|&i| i < marks) && different.len() == named.len()
+}
+
+/// Whether groups make a carrier profile.
+fn is_profile(marks: u32, groups: &[u8]) -> bool {
+    (groups.len() == 1 || groups.len() == 2) && go_together(marks, groups)
 }
 
 /// A field at a time: each is judged once all of its bytes are there.
@@ -114,10 +130,31 @@ impl Fields<'_> {
         }
         Ok(())
     }
+
+    /// The profile, which any byte begins that is left. A group is judged with those before it, and the standings by the whole.
+    fn profile(&mut self, sheet: &mut Sheet) -> Result<(), Reply> {
+        if self.at == self.bytes.len() {
+            return Ok(());
+        }
+        let (count, from) = self.next(2)?;
+        Self::fault_if(count != 1 && count != 2, from)?;
+        for _ in 0..count {
+            let (group, at) = self.next(1)?;
+            sheet.groups.push(group as u8);
+            Self::fault_if(!go_together(sheet.marks, &sheet.groups), at)?;
+        }
+        let stays = |c: usize| sheet.standing[c] == Standing::Either;
+        Self::fault_if((0..sheet.standing.len()).any(|c| sheet.breaks(c) && !stays(c)), from)
+    }
+
+    fn end(&self) -> Result<(), Reply> {
+        Self::fault_if(self.at < self.bytes.len(), self.at)
+    }
 }
 
-/// The bytes of a form, from what stands in its sections, whether that makes a sheet or not; 01's form has no section of either combinations.
-pub fn laid(marks: u32, class: &[u8], either: Option<&[u8]>, held: &[(u8, u64)]) -> Vec<u8> {
+/// The bytes of a form, from what stands in its sections, whether that makes a sheet or not; 01's form has no section of either combinations, and where
+/// there is no group there is no profile.
+pub fn laid(marks: u32, class: &[u8], either: Option<&[u8]>, held: &[(u8, u64)], groups: &[u8]) -> Vec<u8> {
     let count = |n: usize| (n as u16).to_le_bytes();
     let mut form = vec![marks as u8];
     for section in [Some(class), either].into_iter().flatten() {
@@ -129,6 +166,10 @@ pub fn laid(marks: u32, class: &[u8], either: Option<&[u8]>, held: &[(u8, u64)])
         form.push(c);
         form.extend((seconds as u32).to_le_bytes());
     }
+    if !groups.is_empty() {
+        form.extend(count(groups.len()));
+        form.extend(groups);
+    }
     form
 }
 
@@ -138,7 +179,26 @@ impl Sheet {
             return Err(refused(1));
         }
         let n = 1 << marks;
-        Ok(Sheet { marks: marks as u32, standing: vec![Standing::Out; n], held: vec![0; n] })
+        Ok(Sheet { marks: marks as u32, standing: vec![Standing::Out; n], held: vec![0; n], groups: Vec::new() })
+    }
+
+    pub fn open_profile(marks: u64, groups: &[u8]) -> Result<Sheet, Reply> {
+        let mut sheet = Sheet::open(marks)?;
+        if !is_profile(sheet.marks, groups) {
+            return Err(refused(13));
+        }
+        sheet.groups = groups.to_vec();
+        for c in 0..sheet.standing.len() {
+            if sheet.breaks(c) {
+                sheet.standing[c] = Standing::Either;
+            }
+        }
+        Ok(sheet)
+    }
+
+    /// Whether a combination has not just one mark on in each group.
+    pub fn breaks(&self, c: usize) -> bool {
+        self.groups.iter().any(|&group| (c & usize::from(group)).count_ones() != 1)
     }
 
     pub fn size(&self) -> u64 {
@@ -146,15 +206,21 @@ impl Sheet {
     }
 
     pub fn read(bytes: &[u8]) -> Result<Sheet, Reply> {
-        Self::read_sections(bytes, &[Standing::In, Standing::Either])
+        let (mut fields, mut sheet) = Self::read_sections(bytes, &[Standing::In, Standing::Either])?;
+        fields.profile(&mut sheet)?;
+        fields.end()?;
+        Ok(sheet)
     }
 
-    /// What 01's form says, which knows no either combination.
+    /// What 01's form says, which knows no either combination and no profile.
     pub fn read_form1(bytes: &[u8]) -> Result<Sheet, Reply> {
-        Self::read_sections(bytes, &[Standing::In])
+        let (fields, sheet) = Self::read_sections(bytes, &[Standing::In])?;
+        fields.end()?;
+        Ok(sheet)
     }
 
-    fn read_sections(bytes: &[u8], standings: &[Standing]) -> Result<Sheet, Reply> {
+    /// The sections that both forms have, and what stands behind them.
+    fn read_sections<'a>(bytes: &'a [u8], standings: &[Standing]) -> Result<(Fields<'a>, Sheet), Reply> {
         let mut fields = Fields { bytes, at: 0 };
         let (marks, _) = fields.next(1)?;
         let mut sheet = Sheet::open(marks)?;
@@ -162,8 +228,7 @@ impl Sheet {
             fields.standings(&mut sheet, standing)?;
         }
         fields.seconds(&mut sheet)?;
-        Fields::fault_if(fields.at < bytes.len(), fields.at)?;
-        Ok(sheet)
+        Ok((fields, sheet))
     }
 
     /// The combinations that stand so, rising.
@@ -177,24 +242,27 @@ impl Sheet {
     }
 
     pub fn form(&self) -> Vec<u8> {
-        laid(self.marks, &self.standing_so(Standing::In), Some(&self.standing_so(Standing::Either)), &self.holding())
+        laid(self.marks, &self.standing_so(Standing::In), Some(&self.standing_so(Standing::Either)), &self.holding(), &self.groups)
     }
 
-    /// 01's form, in which what is either does not show.
+    /// 01's form, in which what is either does not show, nor a profile.
     pub fn form1(&self) -> Vec<u8> {
-        laid(self.marks, &self.standing_so(Standing::In), None, &self.holding())
+        laid(self.marks, &self.standing_so(Standing::In), None, &self.holding(), &[])
     }
 
     pub fn change(&mut self, c: u64, to: Standing) -> Result<(), Reply> {
         let at = usize::try_from(c).unwrap();
-        let standing = self.standing.get_mut(at).ok_or(refused(2))?;
-        if *standing == to {
+        let standing = *self.standing.get(at).ok_or(refused(2))?;
+        if self.breaks(at) {
+            return Err(refused(12));
+        }
+        if standing == to {
             return Err(refused(3));
         }
         if to == Standing::Either && self.held[at] > 0 {
             return Err(refused(12));
         }
-        *standing = to;
+        self.standing[at] = to;
         Ok(())
     }
 

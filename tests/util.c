@@ -1,6 +1,6 @@
 /* Each function of vault_util.h against the library: patterns and single lines against the numbers and lists of sheets, patterns read against those
-   written, times against the reading of times, and a sheet that swaps its areas against the entries with areas of their own. Prints what failed and the
-   number of checks; the exit status is 0 only if none failed. */
+   written, times against the reading of times, a sheet that swaps its areas against the entries with areas of their own, and the groups that it tells
+   against those that it was opened with. Prints what failed and the number of checks; the exit status is 0 only if none failed. */
 #include "vault_util.h"
 #include <inttypes.h>
 #include <stdio.h>
@@ -32,12 +32,12 @@ static int alike(struct vault_verdict a, struct vault_verdict b)
 static void answers(void)
 {
     const char *none = vault_answer_text(11); /* a number of the program months alone */
-    for (uint64_t a = 0; a <= VAULT_EITHER; a++) {
+    for (uint64_t a = 0; a <= VAULT_PROFILE; a++) {
         check((strcmp(vault_answer_text(a), none) == 0) == (a == 11), "an answer without words", a);
         for (uint64_t b = 0; b < a; b++)
             check(strcmp(vault_answer_text(a), vault_answer_text(b)) != 0, "two answers with the same words", a);
     }
-    check(strcmp(vault_answer_text(13), none) == 0, "an answer that is none yet", 13);
+    check(strcmp(vault_answer_text(14), none) == 0, "an answer that is none yet", 14);
     check(strcmp(vault_answer_text(UINT64_MAX), none) == 0 && strcmp(vault_answer_text(UINT64_C(0x100000000)), none) == 0, "no answer", 0);
 }
 
@@ -83,31 +83,41 @@ static void pattern(uint64_t marks, uint64_t line)
     check(r.value == 1 && list[0] == line, "the list of a pattern", line);
     check(strcmp(vault_line_pattern(marks, list[0], again), text) == 0, "the pattern of a list", line);
     check(vault_pattern_line(marks, text, strlen(text)) == line, "the line of a pattern", line);
+    uint64_t c = vault_pattern_combination(marks, text, strlen(text));
+    check(strchr(text, '-') != NULL ? c == VAULT_MOST_COMBINATIONS : vault_line_of(c) == line, "the combination of a pattern", line);
 }
 
-/* A pattern with another byte at one place, with one more, and with one less: the line that has it as its pattern, if there is one, and else no line. */
+/* What is no pattern of these marks is none of a line, and none of a combination. */
+static int no_pattern(uint64_t marks, const char *text, size_t size)
+{
+    return vault_pattern_line(marks, text, size) == VAULT_MOST_LINES && vault_pattern_combination(marks, text, size) == VAULT_MOST_COMBINATIONS;
+}
+
+/* A pattern with another byte at one place, with one more, and with one less: the line and the combination that have it as their pattern, if there are
+   such, and else none. */
 static void patterns_spoiled(void)
 {
-    char text[] = "1-01-0", own[VAULT_PATTERN_SIZE];
+    char text[] = "100110", own[VAULT_PATTERN_SIZE];
     for (uint64_t marks = 1; marks <= VAULT_MOST_MARKS; marks++) {
-        for (size_t i = 0; i < marks; i++) {
+        size_t size = (size_t)marks;
+        for (size_t i = 0; i < size; i++) {
             char was = text[i];
             for (int byte = 0; byte < 256; byte++) {
                 text[i] = (char)byte;
-                uint64_t line = vault_pattern_line(marks, text, (size_t)marks);
-                int sign = byte == '0' || byte == '1' || byte == '-';
-                int good = sign ? memcmp(vault_line_pattern(marks, line, own), text, (size_t)marks) == 0 : line == VAULT_MOST_LINES;
-                check(good, "a byte of a pattern", (uint64_t)byte);
+                uint64_t line = vault_pattern_line(marks, text, size), c = vault_pattern_combination(marks, text, size);
+                int fixed = byte == '0' || byte == '1', sign = fixed || byte == '-';
+                check(sign ? memcmp(vault_line_pattern(marks, line, own), text, size) == 0 : line == VAULT_MOST_LINES, "a byte of a pattern", i);
+                check(fixed ? vault_line_of(c) == line : c == VAULT_MOST_COMBINATIONS, "a byte of a combination", i);
             }
             text[i] = was;
         }
-        for (size_t size = 0; size < sizeof text; size++)
-            check((vault_pattern_line(marks, text, size) < VAULT_LINES(marks)) == (size == marks), "a pattern of another length", size);
-        check(vault_pattern_line(marks, NULL, 0) == VAULT_MOST_LINES, "no pattern", marks);
-        check(vault_pattern_line(marks, text, (size_t)marks + ((size_t)1 << 32)) == VAULT_MOST_LINES, "a length above 2^32", marks);
+        for (size_t n = 0; n < sizeof text; n++)
+            check(no_pattern(marks, text, n) == (n != size), "a pattern of another length", n);
+        check(no_pattern(marks, NULL, 0), "no pattern", marks);
+        check(no_pattern(marks, text, size + ((size_t)1 << 32)), "a length above 2^32", marks);
     }
-    check(vault_pattern_line(0, text, 0) == VAULT_MOST_LINES && vault_pattern_line(6, text, 6) == VAULT_MOST_LINES, "no marks, and six", 0);
-    check(vault_pattern_line(UINT64_C(0x100000002), text, 2) == VAULT_MOST_LINES, "marks above 2^32", 0);
+    check(no_pattern(0, text, 0) && no_pattern(6, text, 6), "no marks, and six", 0);
+    check(no_pattern(UINT64_C(0x100000002), text, 2), "marks above 2^32", 0);
 }
 
 static void patterns(void)
@@ -133,6 +143,7 @@ static void single(uint64_t marks, uint64_t c)
     for (uint64_t d = 0; d < VAULT_COMBINATIONS(marks); d++)
         check(vault_sheet_held(&s, vault_line_of(d)).value == (d == c ? c + 1 : 0), "a single combination", c);
     check(pattern_has(vault_line_pattern(marks, line, text), marks, c) && strchr(text, '-') == NULL, "its pattern", c);
+    check(vault_pattern_combination(marks, text, (size_t)marks) == c, "the combination of its pattern", c);
 }
 
 static void singles(void)
@@ -214,15 +225,28 @@ static void tells(const struct vault_sheet *s, const uint8_t *bytes, size_t size
     check(same(vault_sheet_held(s, line), vault_held(bytes, size, line)), "what is held", line);
 }
 
-/* Random changes, many of them refused, on a sheet and on plain areas. */
-static void changes(uint64_t marks)
+/* Whether the sheet tells these groups; the bytes behind them stay. */
+static int under(const struct vault_sheet *s, const uint8_t *groups, size_t n)
+{
+    uint8_t told[VAULT_MOST_GROUPS + 1], want[VAULT_MOST_GROUPS + 1];
+    memset(told, 0x55, sizeof told);
+    memset(want, 0x55, sizeof want);
+    for (size_t i = 0; i < n; i++)
+        want[i] = groups[i];
+    return vault_sheet_groups(s, told) == n && memcmp(told, want, sizeof want) == 0;
+}
+
+/* Random changes, many of them refused, on a sheet and on plain areas; under a profile, if there are groups. */
+static void changes(uint64_t marks, const uint8_t *groups, size_t n)
 {
     struct vault_sheet s, copy;
     uint8_t bytes[VAULT_FORM_SIZE], out[VAULT_FORM_SIZE];
-    size_t size = (size_t)vault_open(marks, bytes, sizeof bytes).value;
+    struct vault_reply opened = n == 0 ? vault_open(marks, bytes, sizeof bytes) : vault_open_profile(marks, groups, n, bytes, sizeof bytes);
+    size_t size = (size_t)opened.value;
     uint32_t random = (uint32_t)marks;
     memset(&s, 0x55, sizeof s);
-    check(vault_sheet_open(&s, marks).answer == VAULT_DONE && holds(&s, bytes, size), "an opened sheet", marks);
+    check(same(n == 0 ? vault_sheet_open(&s, marks) : vault_sheet_open_profile(&s, marks, groups, n), opened), "an opening", marks);
+    check(opened.answer == VAULT_DONE && holds(&s, bytes, size), "an opened sheet", marks);
     for (uint64_t i = 0; i < 1000; i++) {
         random = random * 1103515245u + 12345u;
         int kind = (int)(random >> 16) % 5;
@@ -234,12 +258,52 @@ static void changes(uint64_t marks)
         }
         copy = s;
         check(same(changed(&s, kind, c, seconds), r) && holds(&s, bytes, size), "a change", i);
-        check(vault_sheet_marks(&s) == marks, "the marks", i);
+        check(vault_sheet_marks(&s) == marks && under(&s, groups, n), "the marks and groups", i);
         check(r.answer != VAULT_DONE || !holds(&copy, bytes, size), "a copy is another sheet", i);
         tells(&s, bytes, size, (random >> 10) % 300);
     }
     memset(&copy, 0x55, sizeof copy);
     check(vault_sheet_read(&copy, bytes, size).answer == VAULT_DONE && holds(&copy, bytes, size), "a sheet that is read", marks);
+}
+
+/* A sheet under one group or two, each of any marks, is the one that is opened in an area, and tells its groups; a refusal leaves no sheet. */
+static void profile(uint64_t marks, const uint8_t *groups, size_t n)
+{
+    struct vault_sheet s;
+    uint8_t bytes[VAULT_FORM_SIZE];
+    struct vault_reply r = vault_open_profile(marks, groups, n, bytes, sizeof bytes);
+    memset(&s, 0x55, sizeof s);
+    check(same(vault_sheet_open_profile(&s, marks, groups, n), r) && holds(&s, bytes, (size_t)r.value), "a sheet under a profile", groups[0]);
+    check(under(&s, groups, r.answer == VAULT_DONE ? n : 0), "its groups", groups[0]);
+}
+
+/* Nitrate, acetate and polyester, from left to right: what is not on one of them alone is either and stays so, and not on polyester is one line. */
+static void carriers(void)
+{
+    struct vault_sheet s;
+    uint8_t list[VAULT_LIST_SIZE], group = (uint8_t)vault_pattern_combination(3, "111", 3);
+    memset(&s, 0x55, sizeof s);
+    check(vault_sheet_open_profile(&s, 3, &group, 1).value == 15 && vault_sheet_either(&s, 26).value == 5, "the carriers", group);
+    check(vault_sheet_enter(&s, 4).answer == VAULT_DONE && vault_sheet_enter(&s, 2).answer == VAULT_DONE, "nitrate or acetate", 6);
+    check(vault_sheet_list(&s, list).value == 1 && list[0] == 24, "not on polyester", 24);
+    check(vault_sheet_enter(&s, 6).answer == VAULT_EITHER && vault_sheet_leave(&s, 6).answer == VAULT_EITHER, "no nitrate on acetate", 6);
+    check(vault_sheet_make_either(&s, 6).answer == VAULT_EITHER && vault_sheet_receive(&s, 6, 1).answer == VAULT_EITHER, "nor made so", 6);
+    check(vault_sheet_make_either(&s, 4).answer == VAULT_DONE && vault_sheet_leave(&s, 4).answer == VAULT_DONE, "nitrate is free to change", 4);
+    check(under(&s, &group, 1), "under the carriers", group);
+}
+
+static void profiles(void)
+{
+    for (uint64_t marks = 0; marks <= VAULT_MOST_MARKS + 1; marks++)
+        for (unsigned a = 0; a < 64; a++)
+            for (size_t n = 0; n <= 3; n++) {
+                profile(marks, (const uint8_t[]){(uint8_t)a, 3, 12}, n);
+                profile(marks, (const uint8_t[]){(uint8_t)a, (uint8_t)(~a & 31), 3}, n);
+            }
+    for (uint64_t marks = 2; marks <= VAULT_MOST_MARKS; marks++)
+        changes(marks, (const uint8_t[]){3}, 1);
+    changes(4, (const uint8_t[]){12, 3}, 2);
+    changes(5, (const uint8_t[]){5, 26}, 2);
 }
 
 /* The sheet of an old form is the one that is read to an area, and is a sheet as any other. */
@@ -306,7 +370,9 @@ int main(void)
     singles();
     times();
     for (uint64_t marks = 1; marks <= VAULT_MOST_MARKS; marks++)
-        changes(marks);
+        changes(marks, NULL, 0);
+    carriers();
+    profiles();
     from_form1();
     drawn();
     no_sheets();
