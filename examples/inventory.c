@@ -5,7 +5,7 @@
    Line 1 of MOVEMENTS is `night N`. Then each line is a movement, `in P`, `out P`, `either P`, `recv P T` or `gone P T`, with one space between parts: P
    has a character 0 or 1 for each of the MARKS marks, the highest first, and T is a running time, in minutes such as 90:00 or in hours such as 1:30:00.
    Either is a combination that no can could have. A movement that is refused is printed with its line and the cause, and the rest go on. Times are
-   printed in minutes.
+   printed in minutes. A sheet that was opened under a carrier profile stays under it.
 
    Nights are numbered from 1, and each is made once. SHEET has the number of the last night made and the sheet's stored form in one file, which is
    replaced as a whole: written beside it, brought to the disk, renamed. So the night is made or not made, wherever a power cut comes, and can be
@@ -212,20 +212,6 @@ static int keep(const struct batch *b, const char *name)
 
 /* ---- the movements */
 
-/* A combination as it is written, or one that no sheet has. */
-static uint64_t combination(struct text p, size_t marks)
-{
-    uint64_t c = 0;
-    if (p.size != marks)
-        return UINT64_MAX;
-    for (size_t i = 0; i < p.size; i++) {
-        if (p.start[i] != '0' && p.start[i] != '1')
-            return UINT64_MAX;
-        c = c * 2 + (p.start[i] == '1');
-    }
-    return c;
-}
-
 /* A change of standing. */
 static uint64_t change(struct vault_sheet *s, struct text word, uint64_t c)
 {
@@ -243,7 +229,7 @@ static uint64_t movement(struct vault_sheet *s, struct text line)
     size_t parts = split(line, part, 3);
     if (parts < 2 || parts > 3)
         return VAULT_UNREADABLE;
-    uint64_t c = combination(part[1], vault_sheet_marks(s));
+    uint64_t c = vault_pattern_combination(vault_sheet_marks(s), part[1].start, part[1].size); /* no pattern: one that no sheet has */
     if (parts == 2)
         return change(s, part[0], c);
     struct vault_time time = vault_read_time(part[2].start, part[2].size); /* in either form: seconds are seconds */

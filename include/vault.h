@@ -8,6 +8,9 @@
  * combination in the class and none that is out, no combination twice, be it in the class or either; in rising order of each line's lowest combination
  * in the class, and the first such list by line numbers.
  *
+ * A sheet may be opened under a carrier profile: one or two groups of marks, of each of which a can has exactly one, such as nitrate, acetate and
+ * polyester. A combination that has none of a group on, or more than one, breaks the profile: it is either, and stays so (vault_open_profile).
+ *
  * A program keeps a sheet in its stored form: bytes, to be written to a file as they are, the same on every machine.
  *
  *     byte m
@@ -15,9 +18,12 @@
  *     count (2 bytes, low byte first), then the either combinations, one byte each, strictly rising; none of them is in the class
  *     count (2 bytes, low byte first), then the held combinations, strictly rising: one byte, and the seconds (1 or more) in 4 bytes, low first;
  *         none of them is either
+ *     under a profile alone, where another sheet has nothing: count (2 bytes, low byte first) of the groups, 1 or 2, then the groups, one byte each,
+ *         the sum of 2^i over the marks i of the group; each combination that breaks the profile is either
  *
  * What stands in neither of the first two sections is out. Up to version 2 the form had no section of either combinations: vault_from_form1 reads such
  * bytes, every other entry today's alone. Nothing guesses in which of the two forms bytes are, and nothing could, since some are both (see there).
+ * Version 3.0 had no profiles: its forms are read as they are, and a program of 3.0 refuses a form that has a profile, at the count of its groups.
  *
  * An entry that changes a sheet takes the old stored form in one area and writes the new one to another, which the program takes for the
  * sheet from then on: never in place. Nothing else is kept: no memory is allocated, there is no state between calls, and nothing is locked, so
@@ -33,18 +39,21 @@
  * front, and behind them a fault and where that is. The place is 0 for every answer but VAULT_UNREADABLE; the value is 0 for every answer but
  * VAULT_DONE, and so are the form, the fault and where it is. Every answer but VAULT_DONE is a refusal, and leaves every byte of every area as it was.
  * If there are several reasons to refuse, the first in this order is answered: what reading the sheet answers, then what the call answers, in the
- * order in which the entry below names them, then VAULT_ROOM. (vault_open reads no sheet; vault_read_pla reads a text in its place, and
- * vault_from_form1 a form without either combinations.)
+ * order in which the entry below names them, then VAULT_ROOM. (vault_open and vault_open_profile read no sheet; vault_read_pla reads a text in its
+ * place, and vault_from_form1 a form without either combinations.)
  *
  * Reading a sheet answers, before anything else,
  *     VAULT_UNREADABLE  with place 0, if there is no byte
  *     VAULT_MARKS       if its first byte is not 1 to 5
  *     VAULT_UNREADABLE  with the offset of the first faulty field: a count above 2^m, a combination not below 2^m or not above the one before in its
  *                       section, an either combination that is in the class, a held one that is either, seconds of 0, or seconds that bring the
- *                       sum above VAULT_MOST_HELD; or with the length, if the bytes end early; or with the offset of the first byte left over.
+ *                       sum above VAULT_MOST_HELD, a count of groups that is not 1 or 2, or a group of fewer than two marks, with a mark not
+ *                       below m, or with one of the group before; or with the length, if the bytes end early; or with the offset of the count of
+ *                       groups, if a combination that breaks the profile is not either; or with the offset of the first byte left over.
  * Fields are judged in order, each once all its bytes are there. So a faulty field that is complete comes before bytes that end early, and one
  * that is cut short is not judged: the bytes 1, 3, 0 have place 1, a count above 2, and the bytes 1, 3 have place 2, where they end. The seconds
- * of a held combination are a field of their own, with their own offset, one above that of the combination.
+ * of a held combination are a field of their own, with their own offset, one above that of the combination. Any byte behind the held section begins
+ * a count of groups, so that a single stray one there is no byte left over: the bytes end early, and the place is the length.
  */
 #ifndef VAULT_H
 #define VAULT_H
@@ -58,7 +67,7 @@ extern "C" {
 
 /* The version, as three numbers and as text with dots between. The three lines are its one source: Makefile and vault.pc take it from here. */
 #define VAULT_VERSION_MAJOR 3
-#define VAULT_VERSION_MINOR 0
+#define VAULT_VERSION_MINOR 1
 #define VAULT_VERSION_PATCH 0
 #define VAULT_DOTTED(a, b, c) #a "." #b "." #c
 #define VAULT_DOTTED_VALUES(a, b, c) VAULT_DOTTED(a, b, c)
@@ -77,7 +86,8 @@ enum vault_answer {
     VAULT_ABOVE = 8,       /* a receipt would take the seconds of a line above 4,000,000,000 */
     VAULT_BELOW = 9,       /* a withdrawal would take the seconds of a line below 0 */
     VAULT_UNREADABLE = 10, /* text or stored bytes not readable; the place goes with it */
-    VAULT_EITHER = 12      /* a receipt to an either combination, or making one either that holds seconds */
+    VAULT_EITHER = 12,     /* a receipt to an either combination, making one either that holds seconds, or a change of one that breaks the profile */
+    VAULT_PROFILE = 13     /* opening under a profile that is faulty */
 };
 
 /* The forms of a running time. */
@@ -98,14 +108,16 @@ enum vault_fault {
 
 /* The limits. */
 #define VAULT_MOST_MARKS 5
+#define VAULT_MOST_GROUPS 2          /* of a profile */
 #define VAULT_MOST_COMBINATIONS 32
 #define VAULT_MOST_LINES 243
 #define VAULT_MOST_AMOUNT 35999      /* seconds of one receipt or withdrawal: 599:59, or 9:59:59, the most of either form */
 #define VAULT_MOST_HELD 4000000000u  /* seconds of a sheet */
 
 /*
- * Room that always suffices: for a stored form, 7 + 6 * 32 bytes, for a list, and for a PLA text that is written, of 16 cubes of five marks. A form of
- * version 2 or before, which vault_from_form1 reads, has no more than 5 + 6 * 32 bytes.
+ * Room that always suffices: for a stored form, 7 + 6 * 32 bytes, for a list, and for a PLA text that is written, of 16 cubes of five marks. A profile
+ * makes no form longer than that: under one, half of the combinations at least are either and hold nothing, so that such a form has no more than
+ * 7 + 32 + 5 * 16 + 3 = 122 bytes. A form of version 2 or before, which vault_from_form1 reads, has no more than 5 + 6 * 32 bytes.
  */
 #define VAULT_FORM_SIZE 199
 #define VAULT_LIST_SIZE 32
@@ -145,14 +157,32 @@ struct vault_verdict {
 struct vault_reply vault_open(uint64_t marks, uint8_t *out, size_t out_size);
 
 /*
+ * Opens a sheet under a carrier profile: with every combination either that breaks it, the others out, and nothing held. groups has one byte for each
+ * group, the sum of 2^i over the marks i of the group. Let polyester be mark 0, acetate mark 1, nitrate mark 2 and colour mark 3. A can is on one of
+ * the three carriers and on no second, so that they are a group, 1 + 2 + 4:
+ *
+ *     const uint8_t carriers[] = {7};
+ *     struct vault_reply r = vault_open_profile(4, carriers, sizeof carriers, out, sizeof out);
+ *
+ * The six combinations with one carrier, in colour or not, are out, and enter and leave as on any sheet; the other ten, with none of the three or with
+ * more than one, are either, and no class change moves them. All film on nitrate or acetate, 2, 4, 10 and 12, then is one line, "not on polyester", the
+ * other marks free. A second group is for another choice of one among several, of marks that the first has not.
+ * Value: the bytes written: 9, one for each group, and one for each combination that breaks the profile, 12 to 37 together.
+ * Refused: VAULT_MARKS if marks is not 1 to 5; VAULT_PROFILE if the profile is faulty: groups has not 1 or 2 bytes, a group has fewer than two marks, a
+ * mark is in both groups, or a mark is not below marks; VAULT_ROOM if out is too short for the form.
+ */
+struct vault_reply vault_open_profile(uint64_t marks, const uint8_t *groups, size_t groups_size, uint8_t *out, size_t out_size);
+
+/*
  * The five changes. Never in place: out may not overlap the sheet. The value is the size of the new form, which out holds only if the answer is
  * VAULT_DONE; after a refusal the old form is still the sheet.
  */
 
 /*
- * Puts a combination into the class (enter), or takes it out (leave), however it stood, also if it was either. Value: the bytes written.
- * Refused: reading's answer; VAULT_COMBINATION; VAULT_STANDING if it is in the class (out of it) already; VAULT_ROOM if out is too short for the
- * new form.
+ * Puts a combination into the class (enter), or takes it out (leave), however it stood, also if it was either, but not if it breaks the sheet's
+ * profile. Value: the bytes written.
+ * Refused: reading's answer; VAULT_COMBINATION; VAULT_EITHER if it breaks the profile; VAULT_STANDING if it is in the class (out of it) already;
+ * VAULT_ROOM if out is too short for the new form.
  */
 struct vault_reply vault_enter(const uint8_t *sheet, size_t sheet_size, uint64_t combination, uint8_t *out, size_t out_size);
 struct vault_reply vault_leave(const uint8_t *sheet, size_t sheet_size, uint64_t combination, uint8_t *out, size_t out_size);
@@ -160,8 +190,8 @@ struct vault_reply vault_leave(const uint8_t *sheet, size_t sheet_size, uint64_t
 /*
  * Makes a combination either, that was in the class or out of it: no can could have it, and lines may contain it or not, whichever gives the better
  * list. Value: the bytes written.
- * Refused: reading's answer; VAULT_COMBINATION; VAULT_STANDING if it is either already; VAULT_EITHER if it holds seconds; VAULT_ROOM if out is too
- * short for the new form.
+ * Refused: reading's answer; VAULT_COMBINATION; VAULT_EITHER if it breaks the sheet's profile (and not VAULT_STANDING, though it is either);
+ * VAULT_STANDING if it is either already; VAULT_EITHER if it holds seconds; VAULT_ROOM if out is too short for the new form.
  */
 struct vault_reply vault_make_either(const uint8_t *sheet, size_t sheet_size, uint64_t combination, uint8_t *out, size_t out_size);
 
@@ -190,7 +220,7 @@ struct vault_reply vault_copy(const uint8_t *sheet, size_t sheet_size, uint8_t *
 
 /*
  * Reads a form of version 2 or before, which has no section of either combinations: byte m, the class section and the held section, as above. Writes
- * the same sheet in today's form, without an either combination. Value: the bytes written, two more than were read.
+ * the same sheet in today's form, without an either combination and without a profile. Value: the bytes written, two more than were read.
  * Refused: what reading a sheet answers, in this form; VAULT_ROOM if out is too short for the new one.
  * A program knows by itself which of its files are old. The bytes do not tell: the twenty 3, 0 0, 3 0, 0 1 2 2 0, 3 1 0 0 0, 4 1 0 0 0 are an old form,
  * with 131,585 seconds under 0, and one each under 3 and 4; and today's, with 0, 1 and 2 either, and one each under 3 and 4.
@@ -282,7 +312,8 @@ struct vault_time vault_read_time(const void *text, size_t text_size);
 
 /*
  * Reads a PLA text, and writes the stored form of the sheet that has the union of the cubes as its class, and holds nothing. The text is lent as
- * const void *, as above. No combination of it is either. Value: the bytes written, 7 and one for each combination in the class, so at most 39.
+ * const void *, as above. No combination of it is either, and it has no profile. Value: the bytes written, 7 and one for each combination in the
+ * class, so at most 39.
  * Refused, the lines being judged in order: VAULT_UNREADABLE, with the offset of the first byte of the first unreadable line; VAULT_MARKS as soon
  * as a readable .i line comes whose inputs are not 1 to 5, whatever stands behind it. Then, at the text's end or at .e: VAULT_UNREADABLE, with the
  * length of the whole text, if .i or .o has not come; VAULT_UNREADABLE, with the offset of the .p line, if its number is not that of the cubes.

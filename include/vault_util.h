@@ -32,7 +32,8 @@ static inline const char *vault_answer_text(uint64_t answer)
     case VAULT_ABOVE: return "more than a sheet can hold";
     case VAULT_BELOW: return "less is held";
     case VAULT_UNREADABLE: return "not readable";
-    case VAULT_EITHER: return "an either combination holds nothing";
+    case VAULT_EITHER: return "no can could have it, or it holds seconds";
+    case VAULT_PROFILE: return "a profile is one or two groups of two or more of the marks, no mark twice";
     default: return "no such answer";
     }
 }
@@ -82,6 +83,25 @@ static inline uint64_t vault_pattern_line(uint64_t marks, const char *text, size
         line = line * 3 + (text[i] == '-' ? 2u : text[i] == '1' ? 1u : 0u);
     }
     return line;
+}
+
+/*
+ * The combination of a pattern without a free mark: the text of so many bytes, without a zero byte, has a character 0 or 1 for each mark, the highest
+ * first. As a group of a profile it has the marks that are 1. Any other text gives VAULT_MOST_COMBINATIONS, which is no combination and no group of
+ * any sheet, as it does if marks is not 1 to 5.
+ */
+static inline uint64_t vault_pattern_combination(uint64_t marks, const char *text, size_t size)
+{
+    uint64_t combination = 0;
+    size_t i;
+    if (marks < 1 || marks > VAULT_MOST_MARKS || size != marks)
+        return VAULT_MOST_COMBINATIONS;
+    for (i = 0; i < size; i++) {
+        if (text[i] != '0' && text[i] != '1')
+            return VAULT_MOST_COMBINATIONS;
+        combination = combination * 2 + (text[i] == '1' ? 1u : 0u);
+    }
+    return combination;
 }
 
 /*
@@ -143,6 +163,23 @@ static inline unsigned vault_sheet_marks(const struct vault_sheet *s)
     return s->size == 0 ? 0u : s->form[s->now][0];
 }
 
+/*
+ * The groups of the profile that the sheet is under, as vault_open_profile takes them. They are written to groups, which has VAULT_MOST_GROUPS bytes,
+ * and their number is returned: 0 if there is no profile, or no sheet. They stand behind the three sections of the form, of which the third has five
+ * bytes for each of its combinations and the others one. No count is above 32, so that its low byte tells it.
+ */
+static inline size_t vault_sheet_groups(const struct vault_sheet *s, uint8_t *groups)
+{
+    const uint8_t *form = s->form[s->now];
+    size_t at = 1, section, n, i;
+    for (section = 0; section < 3 && at < s->size; section++)
+        at += 2 + (size_t)form[at] * (section == 2 ? 5 : 1);
+    n = at < s->size ? form[at] : 0;
+    for (i = 0; i < n; i++)
+        groups[i] = form[at + 2 + i];
+    return n;
+}
+
 /* For the functions below: where the next sheet is written, and the swap. */
 static inline uint8_t *vault_sheet_room(struct vault_sheet *s)
 {
@@ -159,15 +196,22 @@ static inline struct vault_reply vault_sheet_swap(struct vault_sheet *s, struct 
 }
 
 /*
- * A sheet begins with one of these: vault_open, or vault_copy of a stored form, or vault_from_form1 of an old one, or vault_read_pla of a PLA text; form
- * and text may not lie in s. What s was before does not matter. A refusal leaves no sheet in s: every call on it then answers VAULT_UNREADABLE at
- * place 0.
+ * A sheet begins with one of these: vault_open, or vault_open_profile with the groups of a profile, or vault_copy of a stored form, or vault_from_form1
+ * of an old one, or vault_read_pla of a PLA text; groups, form and text may not lie in s. What s was before does not matter. A refusal leaves no sheet
+ * in s: every call on it then answers VAULT_UNREADABLE at place 0.
  */
 static inline struct vault_reply vault_sheet_open(struct vault_sheet *s, uint64_t marks)
 {
     s->size = 0;
     s->now = 0;
     return vault_sheet_swap(s, vault_open(marks, vault_sheet_room(s), VAULT_FORM_SIZE));
+}
+
+static inline struct vault_reply vault_sheet_open_profile(struct vault_sheet *s, uint64_t marks, const uint8_t *groups, size_t size)
+{
+    s->size = 0;
+    s->now = 0;
+    return vault_sheet_swap(s, vault_open_profile(marks, groups, size, vault_sheet_room(s), VAULT_FORM_SIZE));
 }
 
 static inline struct vault_reply vault_sheet_read(struct vault_sheet *s, const uint8_t *bytes, size_t size)
