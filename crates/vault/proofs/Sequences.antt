@@ -5,15 +5,16 @@ use mathlib.Core.Bool.{Bool, true, cond}
 use mathlib.Core.List.{List, [], _∷_}
 use native.Mathlib.Omega.{arith}
 use lib.Dec.{eqb}
-use lib.ListN.{take}
+use lib.ListN.{length, take}
 use borrow.Author.Tests.{eq-eqb, ne-eqb}
-use Rattle.ground.proofs.Cases.{if}
+use Rattle.ground.proofs.Cases.{if, and-right}
+use Rattle.profiles.specs.Profiles.{countOk, profileOf, namesOk}
 use Rattle.sheet.specs.Limits.{mostMarks, entries, marksOk}
-use Rattle.sheet.specs.Record.{Record, sheetOf, opened}
-use Rattle.sheet.specs.Calls.{openOf}
+use Rattle.sheet.specs.Record.{Record, sheetOf, openedUnder, opened}
+use Rattle.sheet.specs.Calls.{openOf, openUnderOf}
 use Rattle.sheet.specs.declared.Sheet.{Sheet}
 use Rattle.sheet.specs.declared.Answer.{Answer}
-use Rattle.sheet.proofs.Answers.{open-done, open-refused}
+use Rattle.sheet.proofs.Answers.{open-done, open-refused, open-under-done, open-under-faulty, open-under-refused}
 use Rattle.stored.specs.Answers.{readOf, Reads}
 use Rattle.stored.specs.Fields.{good}
 use Rattle.stored.specs.Form.{form}
@@ -22,15 +23,15 @@ use Rattle.stored.proofs.Trips.{form-same-sheet, writes-done}
 use Rattle.histories.specs.Histories.{Good, afterAll, numbersOf}
 use Rattle.histories.specs.Travels.{eventNumber, travel}
 use Rattle.histories.proofs.Kept.{did-kept}
-use Rattle.histories.proofs.Goods.{good-after, good-opened}
-use Rattle.histories.proofs.Travels.{form-kept, written-number, five}
+use Rattle.histories.proofs.Goods.{good-after, good-opened, good-opened-under}
+use Rattle.histories.proofs.Travels.{form-kept, written-number, five, good-storable}
 use Rattle.vault.specs.declared.Reply.{Reply}
 use Rattle.vault.specs.Entries.{Holds, HoldsNone, Put, ChangesBy, Changes, same}
 use Rattle.vault.specs.Sequences.{Entry, changing, copying, lentTo, callOf, Serves, rests, accepted, refused, callNumber, called, entryNumber, afterEntry}
 
 reads-form : (r : Record) → Good r → {a : Read} → Reads mostMarks entries (form r) a → a ≡ readOf entries (good r)
 reads-form r g {a} x =
-    form-same-sheet 5 entries five (omega arith) r (record { marks = g .marks; most-held = g .times; apart = g .apart }) (subst (λ (t : List ℕ). Reads mostMarks entries t a) (sym (form-kept r g)) x)
+    form-same-sheet 5 entries five (omega arith) r (good-storable g) (subst (λ (t : List ℕ). Reads mostMarks entries t a) (sym (form-kept r g)) x)
 
 -- the bytes of a record hold its sheet
 pub holds-record : (r : Record) → Good r → {s : Sheet} → Holds (form r) s → s ≡ sheetOf entries r
@@ -109,16 +110,32 @@ written-form : (r : Record) → Good r → {out later : List ℕ} {reply : Reply
 written-form r g (Put.refused n) z = absurd (n refl)
 written-form r g (Put.written y w) z = writes-done w z .1 ∙ form-kept r g
 
-not-written : (s : Sheet) {out later : List ℕ} {reply : Reply} → Put (record { number = 1; sheet = s }) out reply later → reply .answer ≡ 0 → ⊥
-not-written s (Put.refused n) z = omega arith
-not-written s (Put.written y w) z = omega arith
+not-written : (n : ℕ) (s : Sheet) {out later : List ℕ} {reply : Reply} → (n ≡ 0 → ⊥) → Put (record { number = n; sheet = s }) out reply later → reply .answer ≡ 0 → ⊥
+not-written n s some (Put.refused k) z = some z
+not-written n s some (Put.written y w) z = some y
 
 pub open-begins : (m : ℕ) {out later : List ℕ} {reply : Reply} → Put (openOf mostMarks entries m) out reply later → reply .answer ≡ 0
     → (marksOk mostMarks m ≡ true) × (take (reply .value) later ≡ form (opened m))
 open-begins m {out} {later} {reply} p z =
     if (marksOk mostMarks m)
     (λ e. (e, written-form (opened m) (good-opened m e) (subst (λ (a : Answer). Put a out reply later) (sym (open-done 5 entries m e)) p) z))
-    (λ e. absurd (not-written (sheetOf entries (opened 1)) (subst (λ (a : Answer). Put a out reply later) (sym (open-refused 5 entries m e)) p) z))
+    (λ e. absurd (not-written 1 (sheetOf entries (opened 1)) (omega arith) (subst (λ (a : Answer). Put a out reply later) (sym (open-refused 5 entries m e)) p) z))
+
+-- or `vault_open_profile`: that of a sheet opened under the profile
+pub open-under-begins : (m : ℕ) (groups : List ℕ) {out later : List ℕ} {reply : Reply} → Put (openUnderOf mostMarks entries m groups) out reply later → reply .answer ≡ 0
+    → (marksOk mostMarks m ≡ true) × (namesOk m groups ≡ true) × (take (reply .value) later ≡ form (openedUnder m (profileOf groups)))
+open-under-begins m groups {out} {later} {reply} p z =
+    let told-so : (a : Answer) → a ≡ openUnderOf mostMarks entries m groups → Put a out reply later = λ a e. subst (λ (a : Answer). Put a out reply later) (sym e) p in
+    if (marksOk mostMarks m)
+    (λ e. if (namesOk m groups)
+    (λ ok. (
+      e,
+      ok,
+      written-form (openedUnder m (profileOf groups)) (good-opened-under m (profileOf groups) e (and-right (countOk (length groups)) _ ok))
+          (told-so _ (open-under-done 5 entries m groups e ok)) z,
+    ))
+    (λ no. absurd (not-written 13 (sheetOf entries (opened 1)) (omega arith) (told-so _ (open-under-faulty 5 entries m groups e no)) z)))
+    (λ e. absurd (not-written 1 (sheetOf entries (opened 1)) (omega arith) (told-so _ (open-under-refused 5 entries m groups e)) z))
 
 -- or with what was read as the sheet of a record, whichever way of reading, and written
 pub read-begins : {R : Read → Type 0} (r : Record) → Good r → ((a : Read) → R a → a ≡ readOf entries (good r)) → {out later : List ℕ} {reply : Reply}

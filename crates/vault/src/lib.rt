@@ -4,7 +4,7 @@ ghost use Rattle.tables.specs.Tables.{entry};
 ghost use Rattle.sheet.specs.Limits.{mostMarks, entries};
 ghost use Rattle.sheet.specs.Record.{outside-counts, either-counts, held-seconds};
 ghost use Rattle.sheet.specs.Sound.{ClassReady, Ready};
-ghost use Rattle.sheet.specs.Calls.{openOf, didOf, ClassSize};
+ghost use Rattle.sheet.specs.Calls.{openOf, openUnderOf, didOf, ClassSize};
 ghost use Rattle.sheet.specs.declared.Call.the-variants.{Change, Receive, Withdraw};
 ghost use Rattle.sheet.specs.declared.Standing.the-variants.{In, Out, Either};
 ghost use Rattle.stored.specs.Answers.{ReadsBy};
@@ -186,6 +186,14 @@ pub extern "C" fn vault_open(marks: u64, out: &mut [u8]) -> Reply
     ensures { λ r. ⌜ Put (openOf mostMarks entries marks) (now (out .entry)) r (now (out .exit)) ⌝ }
 {
     put(Sheet::open(marks as usize), out)
+}
+
+// A sheet of so many marks under a carrier profile, a byte for each of its groups.
+#[no_mangle]
+pub extern "C" fn vault_open_profile(marks: u64, groups: &[u8], out: &mut [u8]) -> Reply
+    ensures { λ r. ⌜ Put (openUnderOf mostMarks entries marks (now (groups .entry))) (now (out .entry)) r (now (out .exit)) ⌝ }
+{
+    put(Sheet::open_under(marks as usize, groups), out)
 }
 
 // Into the class.
