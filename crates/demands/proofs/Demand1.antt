@@ -9,10 +9,11 @@ use lib.ListN.{getD}
 use borrow.Author.Tests.{ne-eqb}
 use Rattle.ground.proofs.Cases.{if}
 use Rattle.tables.specs.Tables.{touched}
+use Rattle.profiles.specs.Profiles.{settles, profileOf, namesOk}
 use Rattle.sheet.specs.Limits.{mostMarks, entries, marksOk, amountOk}
-use Rattle.sheet.specs.Record.{isEither, Table, outside-counts, either-counts, held-seconds, sheetOf, opened}
+use Rattle.sheet.specs.Record.{isEither, Table, outside-counts, either-counts, held-seconds, sheetOf, openedUnder, opened}
 use Rattle.sheet.specs.Sound.{ownIn, tells}
-use Rattle.sheet.specs.Calls.{openOf, countsFit, fitsAmount, changeNo, amountNo, numberOn, didOf, moveOf, movedSheet, ClassSize}
+use Rattle.sheet.specs.Calls.{openOf, openUnderOf, countsFit, fitsAmount, changeNo, amountNo, numberOn, didOf, moveOf, movedSheet, ClassSize}
 use Rattle.sheet.specs.declared.Call.{Call}
 use Rattle.sheet.specs.declared.Call.the-variants.{Change, Receive, Withdraw}
 use Rattle.sheet.specs.declared.Standing.{Standing}
@@ -20,11 +21,11 @@ use Rattle.sheet.specs.declared.Standing.the-variants.{Either}
 use Rattle.sheet.specs.declared.Sheet.{Sheet}
 use Rattle.sheet.specs.declared.Answer.{Answer}
 use Rattle.sheet.specs.declared.Value.{Value}
-use Rattle.sheet.proofs.Answers.{open-done, open-refused}
+use Rattle.sheet.proofs.Answers.{open-done, open-refused, open-under-done, open-under-faulty, open-under-refused}
 use Rattle.listing.specs.Listing.{Searched, Listed, Totalled}
 use Rattle.stored.specs.Fields.{marks, due, Outcome, good, refused, Run}
 use Rattle.stored.specs.Answers.{readOf, ReadBy, Writes}
-use Rattle.stored.specs.declared.Section.{Section}
+use Rattle.stored.specs.Sections.{Rest}
 use Rattle.stored.specs.declared.Read.{Read}
 use Rattle.stored.proofs.Refusals.{refusals}
 use Rattle.pla.specs.Answers.{ReadsPla, WritesPla}
@@ -72,10 +73,11 @@ unfolding changeNo
 change-in most to s c =
     cond-in (not (marksOk most (s .marks))) 7 _ refl
     (cond-in (leb (2 ^ s .marks) c) 2 _ refl
+    (cond-in (settles (s .marks) (s .profile) c) 12 _ refl
     (cond-in (ltb 1 (ownIn outside-counts s c + ownIn either-counts s c)) 7 _ refl
     (cond-in (tells to (ownIn outside-counts s c) (ownIn either-counts s c)) 3 _ refl
     (cond-in (isEither to && ltb 0 (ownIn held-seconds s c)) 12 _ refl
-    (cond-in (not (countsFit to s c)) 7 0 refl refl)))))
+    (cond-in (not (countsFit to s c)) 7 0 refl refl))))))
 
 amount-in : (most : ℕ) (more : Bool) (s : Sheet) (c d : ℕ) → inTable (amountNo most more s c d) ≡ true
 unfolding amountNo
@@ -100,6 +102,15 @@ did-refuses s k = record { of-table = number-in s k; leaves = λ n. ap sheet (di
 open-as : (P : Answer → Type 0) (m : ℕ) → P (record { number = 0; sheet = sheetOf entries (opened m) }) → P (record { number = 1; sheet = sheetOf entries (opened 1) })
     → P (openOf mostMarks entries m)
 open-as P m d r = if (marksOk mostMarks m) (λ e. subst P (open-done mostMarks entries m e) d) (λ e. subst P (open-refused mostMarks entries m e) r)
+
+open-under-as : (P : Answer → Type 0) (m : ℕ) (groups : List ℕ) → P (record { number = 0; sheet = sheetOf entries (openedUnder m (profileOf groups)) })
+    → P (record { number = 1; sheet = sheetOf entries (opened 1) }) → P (record { number = 13; sheet = sheetOf entries (opened 1) }) → P (openUnderOf mostMarks entries m groups)
+open-under-as P m groups d r f =
+    if (marksOk mostMarks m)
+    (λ e. if (namesOk m groups)
+    (λ ok. subst P (open-under-done mostMarks entries m groups e ok) d)
+    (λ no. subst P (open-under-faulty mostMarks entries m groups e no) f))
+    (λ e. subst P (open-under-refused mostMarks entries m groups e) r)
 
 -- reading off a sheet, writing it
 
@@ -142,7 +153,7 @@ read-by-refuses {R} {l = l} fair x = subst (λ (y : Read). Refuses (ofRead y) l 
         (λ (w : k ≡ 10). subst (λ (x : ℕ). Refuses (record { answer = x; place = p; values = [] }) l l) (sym w) (placed (λ i. refl)))
         (fair k p y)
 
-read-refuses : {rest : List Section} {t : List ℕ} {l : Lent} (a : Read) → ReadBy (Run mostMarks (due (marks rest)) 0 t) entries a → Refuses (ofRead a) l l
+read-refuses : {rest : Rest} {t : List ℕ} {l : Lent} (a : Read) → ReadBy (Run mostMarks (due (marks rest)) 0 t) entries a → Refuses (ofRead a) l l
 read-refuses a x = read-by-refuses (λ k p. refusals) x
 
 read-pla-refuses : {t : List ℕ} {l : Lent} (a : Read) → ReadsPla mostMarks entries t a → Refuses (ofRead a) l l
@@ -212,6 +223,8 @@ of-refusal x n = ap (λ (y : Read). y .sheet) (x .is) ∙ one-mark (x .outcome) 
 -- EVERY CALL
 every : {r : Told} {before after : Lent} → Made r before after → Refuses r before after
 every (Made.opens m) = open-as (λ (a : Answer). Refuses (ofNumber (a .number)) nothing nothing) m (done refl) (left refl (λ i. refl))
+every (Made.opens-under m groups) =
+    open-under-as (λ (a : Answer). Refuses (ofNumber (a .number)) nothing nothing) m groups (done refl) (left refl (λ i. refl)) (left refl (λ i. refl))
 every (Made.did s k) = did-refuses s k
 every (Made.class-size w) = size-refuses w
 every (Made.list w) = list-refuses w
@@ -225,6 +238,8 @@ every (Made.write-pla w) = write-pla-refuses w
 every (Made.read-time {x = x} r) = time-refuses x
 every (Made.answer-time a) = answer-refuses a
 every (Made.vault-open m p) = put-refuses (openOf mostMarks entries m) (open-as (λ (a : Answer). inTable (a .number) ≡ true) m refl refl) p
+every (Made.vault-open-profile m groups p) =
+    put-refuses (openUnderOf mostMarks entries m groups) (open-under-as (λ (a : Answer). inTable (a .number) ≡ true) m groups refl refl refl) p
 every (Made.vault-change k c) = change-refuses (λ s. didOf mostMarks s k) (λ s. number-in s k) read-refuses c
 every (Made.vault-copy c) = change-refuses same (λ s. refl) read-refuses c
 every (Made.vault-from-form1 c) = change-refuses same (λ s. refl) read-refuses c
@@ -242,6 +257,7 @@ pub demand-1 : Demand1
 demand-1 = record {
   every-call = every;
   opening = λ m. open-as (λ (a : Answer). (a .number ≡ 0 → ⊥) → a .sheet ≡ sheetOf entries (opened 1)) m (λ n. absurd (n refl)) (λ n. refl);
+  opening-under = λ m groups. open-under-as (λ (a : Answer). (a .number ≡ 0 → ⊥) → a .sheet ≡ sheetOf entries (opened 1)) m groups (λ n. absurd (n refl)) (λ n. refl) (λ n. refl);
   reading = λ layout. of-refusal;
   reading-pla = of-refusal;
 }

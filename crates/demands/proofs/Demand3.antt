@@ -5,21 +5,22 @@ use mathlib.Core.Bool.{true}
 use mathlib.Core.List.{List}
 use native.Mathlib.Omega.{arith}
 use lib.ListN.{length, List·getD-eq-default}
-use Rattle.ground.proofs.Cases.{if, below-or}
+use Rattle.ground.proofs.Cases.{if, below-or, and-right}
 use Rattle.boxes.specs.Boxes.{sumIn}
 use Rattle.boxes.proofs.Boxes.{sumIn-nothing}
 use Rattle.boxes.proofs.Count.{boxes-through}
 use Rattle.tables.specs.Tables.{entry, afresh}
 use Rattle.tables.proofs.Entries.{afresh-entry, tab-length}
+use Rattle.profiles.specs.Profiles.{countOk, profileOf, namesOk}
 use Rattle.sheet.specs.Limits.{mostMarks, entries, marksOk}
 use Rattle.sheet.specs.Record.{Record, inClass, Table, outside-counts, either-counts, held-seconds, kept, quantity, sheetOf}
 use Rattle.sheet.specs.Sound.{sizeOf}
-use Rattle.sheet.specs.Calls.{openOf, moveOf, ClassSize}
+use Rattle.sheet.specs.Calls.{openOf, openUnderOf, moveOf, ClassSize}
 use Rattle.sheet.specs.declared.Answer.{Answer}
 use Rattle.sheet.specs.declared.Call.{Call}
 use Rattle.sheet.specs.declared.Sheet.{Sheet}
 use Rattle.sheet.specs.declared.Value.{Value}
-use Rattle.sheet.proofs.Answers.{open-done, open-refused}
+use Rattle.sheet.proofs.Answers.{open-done, open-refused, open-under-done, open-under-faulty, open-under-refused}
 use Rattle.sheet.proofs.Alters.{did-alters}
 use Rattle.sheet.proofs.Tests.{boxes-fit, accepts}
 use Rattle.listing.specs.Listing.{totalOf, Listed, Totalled}
@@ -38,13 +39,13 @@ use Rattle.pla.proofs.Sound.{drawn-storable}
 use Rattle.histories.specs.Histories.{Good, Given, numberOf, after, afterAll, numbersOf, sheetAfter, numberGiven}
 use Rattle.histories.specs.Travels.{Event, Lives, eventNumber, afterEvent}
 use Rattle.histories.proofs.Afresh.{list-afresh, total-afresh, size-afresh}
-use Rattle.histories.proofs.Goods.{good-opened}
+use Rattle.histories.proofs.Goods.{good-opened, good-opened-under}
 use Rattle.histories.proofs.Histories.{sheet-afresh, answers-afresh, good-all}
 use Rattle.histories.proofs.Travels.{good-read, good-events, lives-afresh}
 use Rattle.vault.specs.Entries.{replied, TellsAs, Tells, Lends, KeptAt}
 use Rattle.vault.specs.Sequences.{Entry, Serves, entryNumber, afterEntry}
 use Rattle.vault.specs.declared.Reply.{Reply}
-use Rattle.vault.proofs.Sequences.{holds-record, holds-some, serves-afresh, good-entries, open-begins, read-begins}
+use Rattle.vault.proofs.Sequences.{holds-record, holds-some, serves-afresh, good-entries, open-begins, open-under-begins, read-begins}
 use Rattle.demands.specs.Demand3.{Begins, BeginsIn, WorkedOut, WorkedOutIn, Demand3}
 
 -- a table worked out afresh keeps of every number the sum over its box, 0 where it is none
@@ -65,6 +66,7 @@ module _ (r : Record) (g : Good r) where
   of-record : WorkedOut r (sheetOf entries r)
   of-record = record {
     marks = refl;
+    profile = refl;
     each-kept = λ t b l. kept-afresh t b;
     above = λ t b l. kept-afresh t b ∙ sumIn-nothing (r .marks) b (quantity t r) l;
     list = λ l w. list-afresh r g _ _ _ l w;
@@ -103,8 +105,14 @@ open-accepted : (m : ℕ) → openOf mostMarks entries m .number ≡ 0 → marks
 open-accepted m z =
     if (marksOk mostMarks m) (λ e. e) (λ e. absurd (omega (arith, ap (λ (a : Answer). a .number) (open-refused mostMarks entries m e))))
 
+open-under-accepted : (m : ℕ) (groups : List ℕ) → openUnderOf mostMarks entries m groups .number ≡ 0 → (marksOk mostMarks m ≡ true) × (namesOk m groups ≡ true)
+open-under-accepted m groups z =
+    if (marksOk mostMarks m)
+    (λ e. (e, if (namesOk m groups) (λ ok. ok) (λ no. absurd (omega (arith, ap (λ (a : Answer). a .number) (open-under-faulty mostMarks entries m groups e no))))))
+    (λ e. absurd (omega (arith, ap (λ (a : Answer). a .number) (open-under-refused mostMarks entries m groups e))))
+
 pub good-drawn : {t : List ℕ} {r : Record} → PlaSays mostMarks t (good r) → Good r
-good-drawn p = record { marks = drawn-marks p; standing = drawn-combination p; times = drawn-storable p .most-held; apart = λ c e. drawn-times p c }
+good-drawn p = record { marks = drawn-marks p; profile = drawn-storable p .profile; obeys = drawn-storable p .obeys; standing = drawn-combination p; times = drawn-storable p .most-held; apart = λ c e. drawn-times p c }
 
 pub pla-drawn : {t : List ℕ} {r : Record} → PlaSays mostMarks t (good r) → (a : Read) → ReadsPla mostMarks entries t a → a ≡ readOf entries (good r)
 pla-drawn p a x = x .is ∙ ap (readOf entries) (says-one-outcome (x .run) p)
@@ -116,12 +124,19 @@ first-read y a x = x .is ∙ ap (readOf entries) (one (x .run) y)
 pub begins-good : {s : Sheet} {r : Record} → Begins s r → Good r × (s ≡ sheetOf entries r)
 begins-good (Begins.opening m z) =
     let e = open-accepted m z in (good-opened m e, sym (ap (λ (a : Answer). a .sheet) (open-done mostMarks entries m e)))
+begins-good (Begins.opening-under m groups z) =
+    let e = open-under-accepted m groups z in (
+      good-opened-under m (profileOf groups) (e .0) (and-right (countOk (length groups)) _ (e .1)),
+      sym (ap (λ (a : Answer). a .sheet) (open-under-done mostMarks entries m groups (e .0) (e .1))),
+    )
 begins-good (Begins.reading layout b x y) =
     (good-read layout b y, ap (λ (a : Read). a .sheet) (x .is ∙ ap (readOf entries) (one (x .run) y)))
 begins-good (Begins.drawing {a = a} x p) = (good-drawn p, ap (λ (y : Read). y .sheet) (pla-drawn p a x))
 
-begins-in-good : {t : List ℕ} {r : Record} → BeginsIn t r → Good r × (t ≡ form r)
+pub begins-in-good : {t : List ℕ} {r : Record} → BeginsIn t r → Good r × (t ≡ form r)
 begins-in-good (BeginsIn.opening m p z) = let w = open-begins m p z in (good-opened m (w .0), w .1)
+begins-in-good (BeginsIn.opening-under m groups p z) =
+    let w = open-under-begins m groups p z in (good-opened-under m (profileOf groups) (w .0) (and-right (countOk (length groups)) _ (w .1)), w .2)
 begins-in-good (BeginsIn.reading {t} b y) = (good-read Today b y, is-form Today t b y .bytes)
 begins-in-good (BeginsIn.converting {r = r} b c z y) = let g = good-read First b y in (g, read-begins r g (first-read y) c z)
 begins-in-good (BeginsIn.drawing {r = r} c z p) = let g = good-drawn p in (g, read-begins r g (pla-drawn p) c z)

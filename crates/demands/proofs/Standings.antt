@@ -10,6 +10,8 @@ use borrow.Author.Tests.{lt-leb, lt-ltb, eqb-true, eq-eqb, not-true}
 use Rattle.ground.proofs.Cases.{if, clash, below-or, and-left, and-right}
 use Rattle.lists.specs.Lists.{covered}
 use Rattle.tables.specs.Tables.{touched}
+use Rattle.profiles.specs.Profiles.{settles}
+use Rattle.profiles.specs.declared.Profile.the-variants.{None}
 use Rattle.sheet.specs.Limits.{mostMarks, entries, marksOk, amountOk}
 use Rattle.sheet.specs.Record.{is, isOut, isEither, outs, eithers, Record, NoneEither, outside-counts, either-counts, held-seconds, sheetOf}
 use Rattle.sheet.specs.Sound.{ownIn, tells, recordOf}
@@ -23,7 +25,7 @@ use Rattle.sheet.proofs.Kept.{told-back}
 use Rattle.sheet.proofs.Tests.{change-own, amount-2, amount-4, amount-last, amount-0}
 use Rattle.listing.specs.Listing.{Totalled}
 use Rattle.stored.specs.Fields.{Bytes, good, ReadingBy}
-use Rattle.stored.specs.Form.{section, formBy, form}
+use Rattle.stored.specs.Form.{section, profileBytes, formBy, form}
 use Rattle.stored.specs.declared.Section.the-variants as Sections
 use Rattle.stored.specs.declared.Section.the-variants.{Class, Held}
 use Rattle.stored.specs.Answers.{ReadsBy, Writes}
@@ -35,7 +37,7 @@ use Rattle.stored.proofs.Back.{cut, reads-back}
 use Rattle.histories.specs.Histories.{Good, numberOf, accepted, after, afterAll}
 use Rattle.histories.proofs.Afresh.{out-above}
 use Rattle.histories.proofs.Histories.{good-all}
-use Rattle.histories.proofs.Travels.{good-read, form-kept}
+use Rattle.histories.proofs.Travels.{good-storable, good-read, form-kept}
 use Rattle.vault.specs.Entries.{Put, ChangesBy, same}
 use Rattle.vault.specs.declared.Reply.{Reply}
 use Rattle.demands.specs.Demand2.{Lines}
@@ -55,8 +57,8 @@ no-fourth (suc (suc o)) e l = absurd (omega arith)
 
 -- calls on a record
 
-changes : (r : Record) (to : Standing) (c : ℕ) → c < 2 ^ r .marks → is to (r .standing c) ≡ false → (isEither to ≡ true → r .times c ≡ 0) → numberOf r (Change to c) ≡ 0
-changes r to c low other none = rw (lt-leb (2 ^ r .marks) c low, other) (ap (λ (t : Bool). cond t 12 0) apart)
+changes : (r : Record) (to : Standing) (c : ℕ) → c < 2 ^ r .marks → settles (r .marks) (r .profile) c ≡ false → is to (r .standing c) ≡ false → (isEither to ≡ true → r .times c ≡ 0) → numberOf r (Change to c) ≡ 0
+changes r to c low free other none = rw (lt-leb (2 ^ r .marks) c low, free, other) (ap (λ (t : Bool). cond t 12 0) apart)
   where
     apart : (isEither to && ltb 0 (r .times c)) ≡ false
     apart = if (isEither to) (λ e. rw (e, none e)) (λ e. rw e)
@@ -64,8 +66,8 @@ changes r to c low other none = rw (lt-leb (2 ^ r .marks) c low, other) (ap (λ 
 stands : (r : Record) (to : Standing) (c : ℕ) → accepted r (Change to c) .standing c ≡ to
 stands r to c = rw (eq-eqb c c refl)
 
-twelve : (r : Record) (c : ℕ) → c < 2 ^ r .marks → isEither (r .standing c) ≡ false → 0 < r .times c → numberOf r (Change Either c) ≡ 12
-twelve r c low other some = rw (lt-leb (2 ^ r .marks) c low, other, lt-ltb 0 (r .times c) some)
+twelve : (r : Record) (c : ℕ) → c < 2 ^ r .marks → settles (r .marks) (r .profile) c ≡ false → isEither (r .standing c) ≡ false → 0 < r .times c → numberOf r (Change Either c) ≡ 12
+twelve r c low free other some = rw (lt-leb (2 ^ r .marks) c low, free, other, lt-ltb 0 (r .times c) some)
 
 receipt : (r : Record) (c d : ℕ) → c < 2 ^ r .marks → amountOk d ≡ true → isEither (r .standing c) ≡ true → numberOf r (Receive c d) ≡ 12
 receipt r c d low amount e = rw (lt-leb (2 ^ r .marks) c low, amount, e)
@@ -102,7 +104,7 @@ none-out {r} x c e = not-true (isOut (r .standing c)) (x .right .fits .inside c 
 
 -- the stored form
 
-stored-sections : (r : Record) → form r ≡ r .marks ∷ (section Class r ++ (section Sections.Either r ++ (section Held r ++ [])))
+stored-sections : (r : Record) → form r ≡ r .marks ∷ (section Class r ++ (section Sections.Either r ++ (section Held r ++ profileBytes (r .profile))))
 unfolding formBy
 stored-sections r = refl
 
@@ -110,14 +112,14 @@ stored-sections r = refl
 cut-same : (r : Record) → Good r → ((c : ℕ) → 2 ^ r .marks ≤ c → r .times c ≡ 0) → cut r ≡ r
 cut-same r g none =
     let N = 2 ^ r .marks in
-    ap₂ (λ (f : ℕ → Standing) (g : ℕ → ℕ). record { marks = r .marks; standing = f; times = g })
+    ap₂ (λ (f : ℕ → Standing) (g : ℕ → ℕ). record { marks = r .marks; profile = r .profile; standing = f; times = g })
     (fun-ext (λ c. below-or c N (λ l. upTo-low Out (r .standing) N c l) (λ l. upTo-high Out (r .standing) N c l ∙ sym (out-above r g c l))))
     (fun-ext (λ c. below-or c N (λ l. upTo-low 0 (r .times) N c l) (λ l. upTo-high 0 (r .times) N c l ∙ sym (none c l))))
 
-old-reads : (r : Record) → Good r → NoneEither r → ((c : ℕ) → 2 ^ r .marks ≤ c → r .times c ≡ 0) → ReadingBy First mostMarks (formBy First r) (good r)
-old-reads r g plain none =
+old-reads : (r : Record) → Good r → NoneEither r → r .profile ≡ None → ((c : ℕ) → 2 ^ r .marks ≤ c → r .times c ≡ 0) → ReadingBy First mostMarks (formBy First r) (good r)
+old-reads r g plain bare none =
     subst (λ (q : Record). ReadingBy First mostMarks (formBy First r) (good q)) (cut-same r g none)
-    (reads-back First r (omega arith) (record { marks = g .marks; most-held = g .times; apart = g .apart }) (first-tells r (λ c l. plain c)))
+    (reads-back First r (omega arith) (good-storable g) (first-tells r (λ c l. plain c) bare))
 
 put-converted : {r : Record} {out later : List ℕ} {reply : Reply} (s : Sheet) → form (recordOf s) ≡ form r → Put (same s) out reply later → reply .answer ≡ 0
     → Converted r out reply later
@@ -141,10 +143,10 @@ standings = record {
   no-fourth = no-fourth;
   changes = changes;
   stands = stands;
-  three-first = λ r to c low same. rw (lt-leb (2 ^ r .marks) c low, same);
+  three-first = λ r to c low free same. rw (lt-leb (2 ^ r .marks) c low, free, same);
   twelve = twelve;
   receipt = receipt;
-  seven = λ s to c marks low l. change-own mostMarks to s c marks low l;
+  seven = λ s to c marks low free l. change-own mostMarks to s c marks low free l;
   receipt-untold = receipt-untold;
   time = time;
   apart = λ b ks c e. let w = begins-good b in good-all _ (w .0) ks .apart c e;

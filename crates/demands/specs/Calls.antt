@@ -4,7 +4,7 @@ use Prim.Native.Nat.{ℕ}
 use mathlib.Core.List.{List, [], _∷_}
 use Rattle.sheet.specs.Limits.{mostMarks, entries}
 use Rattle.sheet.specs.Record.{Table}
-use Rattle.sheet.specs.Calls.{openOf, didOf, ClassSize}
+use Rattle.sheet.specs.Calls.{openOf, openUnderOf, didOf, ClassSize}
 use Rattle.sheet.specs.declared.Call.{Call}
 use Rattle.sheet.specs.declared.Sheet.{Sheet}
 use Rattle.sheet.specs.declared.Value.{Value}
@@ -59,6 +59,7 @@ ofReply r = record { answer = r .answer; place = r .place; values = r .value ∷
 pub data Made : Told → (before after : Lent) → Type 0 where
   -- from Rattle
   opens : (m : ℕ) → Made (ofNumber (openOf mostMarks entries m .number)) nothing nothing
+  opens-under : (m : ℕ) (groups : List ℕ) → Made (ofNumber (openUnderOf mostMarks entries m groups .number)) nothing nothing
   did : (s : Sheet) (k : Call) → Made (ofNumber (didOf mostMarks s k .number)) (sheet s) (sheet (didOf mostMarks s k .sheet))
   class-size : {s : Sheet} {v : Value} → ClassSize mostMarks s v → Made (ofValue v) nothing nothing
   list : {s : Sheet} {area later : List ℕ} {v : Value} → Listed mostMarks s area v later → Made (ofValue v) (bytes area) (bytes later)
@@ -74,6 +75,8 @@ pub data Made : Told → (before after : Lent) → Type 0 where
   -- from C; a change is that of vault_enter, vault_leave, vault_make_either, vault_receive or vault_withdraw, a kept number that of vault_outside,
   -- vault_either or vault_held
   vault-open : (m : ℕ) {out later : List ℕ} {r : Reply} → Put (openOf mostMarks entries m) out r later → Made (ofReply r) (bytes out) (bytes later)
+  vault-open-profile : (m : ℕ) (groups : List ℕ) {out later : List ℕ} {r : Reply} → Put (openUnderOf mostMarks entries m groups) out r later
+      → Made (ofReply r) (bytes out) (bytes later)
   vault-change : (k : Call) {t out later : List ℕ} {r : Reply} → Changes (λ s. didOf mostMarks s k) t out r later → Made (ofReply r) (bytes out) (bytes later)
   vault-copy : {t out later : List ℕ} {r : Reply} → Changes same t out r later → Made (ofReply r) (bytes out) (bytes later)
   vault-from-form1 : {t out later : List ℕ} {r : Reply} → ChangesBy (ReadsBy First mostMarks entries t) same out r later → Made (ofReply r) (bytes out) (bytes later)

@@ -8,16 +8,16 @@ use lib.Dec.{eqb, leb}
 use lib.ListN.{getD}
 use Rattle.sheet.specs.Limits.{mostMarks, entries}
 use Rattle.sheet.specs.Record.{sheetOf, opened}
-use Rattle.sheet.specs.Calls.{openOf}
+use Rattle.sheet.specs.Calls.{openOf, openUnderOf}
 use Rattle.stored.specs.Answers.{ReadsBy}
 use Rattle.stored.specs.declared.Layout.{Layout}
 use Rattle.stored.specs.declared.Read.{Read}
 use Rattle.pla.specs.Answers.{ReadsPla}
 use Rattle.demands.specs.Calls.{Told, Lent, Made}
 
--- the numbers of the table: 0 to 10, and 12 for an either combination (11 is the year's alone)
+-- the numbers of the table: 0 to 10, 12 for an either combination and 13 for a faulty profile (11 is the year's alone)
 abbrev pub inTable : ℕ → Bool
-inTable n = leb n 10 || eqb n 12
+inTable n = leb n 10 || eqb n 12 || eqb n 13
 
 -- what every call answers: a number of the table; refused, 0 for each value and all that was lent as it was; the place is 0 for every number but 10
 pub record Refuses (r : Told) (before after : Lent) : Type 0 where
@@ -30,5 +30,7 @@ pub record Demand1 : Type 0 where
   pub every-call : {r : Told} {before after : Lent} → Made r before after → Refuses r before after
   -- a refused opening, or a refused read, gives the sheet of an opened one-mark class
   pub opening : (m : ℕ) → (openOf mostMarks entries m .number ≡ 0 → ⊥) → openOf mostMarks entries m .sheet ≡ sheetOf entries (opened 1)
+  pub opening-under : (m : ℕ) (groups : List ℕ) → (openUnderOf mostMarks entries m groups .number ≡ 0 → ⊥)
+      → openUnderOf mostMarks entries m groups .sheet ≡ sheetOf entries (opened 1)
   pub reading : (layout : Layout) {t : List ℕ} {a : Read} → ReadsBy layout mostMarks entries t a → (a .number ≡ 0 → ⊥) → a .sheet ≡ sheetOf entries (opened 1)
   pub reading-pla : {t : List ℕ} {a : Read} → ReadsPla mostMarks entries t a → (a .number ≡ 0 → ⊥) → a .sheet ≡ sheetOf entries (opened 1)

@@ -1,5 +1,5 @@
 -- DEMAND 3. After every sequence of calls each kept number equals the one worked out afresh from the accepted calls, and so do list and total.
--- What is worked out afresh is that of a record of marks, standings and times (histories): no kept number is in it.
+-- What is worked out afresh is that of a record of marks, profile, standings and times (histories): no kept number is in it.
 use Prim.Native.Nat.{ℕ, _^_, _≤_, _<_}
 use mathlib.Core.Path.{_≡_}
 use mathlib.Core.List.{List}
@@ -7,10 +7,11 @@ use lib.ListN.{length, take}
 use Rattle.boxes.specs.Boxes.{contains, sumIn}
 use Rattle.boxes.specs.Sums.{sum, only}
 use Rattle.tables.specs.Tables.{entry}
+use Rattle.profiles.specs.Profiles.{profileOf}
 use Rattle.sheet.specs.Limits.{mostMarks, entries}
-use Rattle.sheet.specs.Record.{Record, inClass, Table, kept, quantity, opened}
+use Rattle.sheet.specs.Record.{Record, inClass, Table, kept, quantity, openedUnder, opened}
 use Rattle.sheet.specs.Sound.{sizeOf}
-use Rattle.sheet.specs.Calls.{openOf, didOf, moveOf, ClassSize}
+use Rattle.sheet.specs.Calls.{openOf, openUnderOf, didOf, moveOf, ClassSize}
 use Rattle.sheet.specs.Promises.{Altered}
 use Rattle.sheet.specs.declared.Call.{Call}
 use Rattle.sheet.specs.declared.Sheet.{Sheet}
@@ -29,10 +30,12 @@ use Rattle.vault.specs.Entries.{replied, Put, ChangesBy, Tells, Lends, KeptAt, 
 use Rattle.vault.specs.Sequences.{Entry, Serves, entryNumber, afterEntry}
 use Rattle.vault.specs.declared.Reply.{Reply}
 
--- how a history begins, and with which record: with an opened sheet, with what was read, of today's form or 01's, or with what a PLA text draws (a refused
--- one gives the sheet of `opening 1`: `demand-1`)
+-- how a history begins, and with which record: with an opened sheet, under a profile or without one, with what was read, of today's form or 01's, or
+-- with what a PLA text draws (a refused one gives the sheet of `opening 1`: `demand-1`)
 pub data Begins : Sheet → Record → Type 0 where
   opening : (m : ℕ) → openOf mostMarks entries m .number ≡ 0 → Begins (openOf mostMarks entries m .sheet) (opened m)
+  opening-under : (m : ℕ) (groups : List ℕ) → openUnderOf mostMarks entries m groups .number ≡ 0
+      → Begins (openUnderOf mostMarks entries m groups .sheet) (openedUnder m (profileOf groups))
   reading : (layout : Layout) {t : List ℕ} {a : Read} {r : Record} → Bytes t → ReadsBy layout mostMarks entries t a → ReadingBy layout mostMarks t (good r)
       → Begins (a .sheet) r
   drawing : {t : List ℕ} {a : Read} {r : Record} → ReadsPla mostMarks entries t a → PlaSays mostMarks t (good r) → Begins (a .sheet) r
@@ -41,6 +44,7 @@ pub data Begins : Sheet → Record → Type 0 where
 -- list, total and class size are the record's
 pub record WorkedOut (r : Record) (s : Sheet) : Type 0 where
   pub marks : s .marks ≡ r .marks
+  pub profile : s .profile ≡ r .profile
   pub each-kept : (t : Table) (b : ℕ) → b < 3 ^ r .marks → entry (kept t s) b ≡ sumIn (r .marks) b (quantity t r)
   pub above : (t : Table) (b : ℕ) → 3 ^ r .marks ≤ b → entry (kept t s) b ≡ 0
   pub list : {area later : List ℕ} {v : Value} → 2 ^ r .marks ≤ length area → Listed mostMarks s area v later → Given r area v later
@@ -52,6 +56,8 @@ pub record WorkedOut (r : Record) (s : Sheet) : Type 0 where
 pub data BeginsIn : List ℕ → Record → Type 0 where
   opening : (m : ℕ) {out later : List ℕ} {reply : Reply} → Put (openOf mostMarks entries m) out reply later → reply .answer ≡ 0
       → BeginsIn (take (reply .value) later) (opened m)
+  opening-under : (m : ℕ) (groups : List ℕ) {out later : List ℕ} {reply : Reply} → Put (openUnderOf mostMarks entries m groups) out reply later → reply .answer ≡ 0
+      → BeginsIn (take (reply .value) later) (openedUnder m (profileOf groups))
   reading : {t : List ℕ} {r : Record} → Bytes t → Reading mostMarks t (good r) → BeginsIn t r
   converting : {t out later : List ℕ} {reply : Reply} {r : Record} → Bytes t → ChangesBy (ReadsBy First mostMarks entries t) same out reply later
       → reply .answer ≡ 0 → ReadingBy First mostMarks t (good r) → BeginsIn (take (reply .value) later) r

@@ -7,5 +7,6 @@ pub mod Months
 pub mod Features
 pub mod Checks
 pub mod Standings
+pub mod Carriers
 pub mod Above
 pub mod Known
