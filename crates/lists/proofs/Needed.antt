@@ -58,6 +58,10 @@ module _ (m : ℕ) where
       let low = lowestNeeded m need b in
       below-or low (2 ^ m)
       (λ k. let e = lowest-true m (λ c. need c && contains m b c) k in (low, and-left _ _ e, and-right (need low) _ e))
-      (λ k. absurd (omega (arith, without-length l i h, f .shortest (without i l) (without-fits l i h
-      (λ c e. if (contains m b c) (λ t. absurd (omega (arith, lowest-le m (λ c. need c && contains m b c) c (rw (e, t)) (contains-combination m b c t), contains-combination m b c t))) (λ t. t))
-      (f .fits)))))
+      (λ k. absurd (omega (
+        arith,
+        without-length l i h,
+        f .shortest (without i l) (without-fits l i h
+            (λ c e. if (contains m b c) (λ t. absurd (omega (arith, lowest-le m (λ c. need c && contains m b c) c (rw (e, t)) (contains-combination m b c t), contains-combination m b c t))) (λ t. t))
+            (f .fits)),
+      )))

@@ -23,7 +23,7 @@ use Rattle.reading.specs.declared.sections.Part.{Part}
 use Rattle.reading.proofs.Offsets.{start as at-start, then, then-run, field-inside, field-number, field-taken, field-wrong, field-barred}
 use Rattle.reading.proofs.Own.{own-marks, own-start, set-here, set-other, own-added, own-none, own-takes, may-stand, may-not, own-most}
 
--- a combination is due where some are left, and the next section where none is
+-- a combination is due where some are left, and what follows the section where none is
 entries-some : (s : Section) (rest : Rest) (r : Record) (left low : ℕ) → 0 < left → entriesDue s rest r left low ≡ due (combination s rest r (left - 1) low)
 entries-some s rest r zero low h = absurd (omega arith)
 entries-some s rest r (suc k) low h = ap (λ (j : ℕ). due (combination s rest r j low)) (sym (sub-one (suc k)))

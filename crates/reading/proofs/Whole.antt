@@ -1,4 +1,4 @@
--- The marks in front of the sections, the record that the sections give, whichever layout, and the sheet that is worked out from what was read.
+-- The marks in front of the sections, the record that the sections and the profile give, whichever layout, and the sheet that is worked out from what was read.
 use Prim.Native.Nat.{ℕ, _^_, _≤_, _<_}
 use mathlib.Core.Path.{_≡_, refl, sym, ap, _∙_, subst}
 use mathlib.Core.Bool.{Bool, true, false, not, cond, _&&_}

@@ -50,7 +50,7 @@ fn read_group(t: &[u8], at: usize, m: usize, profile: Profile) -> Groups
     }
 }
 
-// As many groups as a profile can have, from an offset on.
+// n groups, as many as a profile can have, from an offset on.
 fn read_groups(t: &[u8], at: usize, m: usize, n: usize) -> Groups
     requires { ⌜ m ≤ mostMarks ⌝ }
     requires { ⌜ at ≤ length (now t) ⌝ }

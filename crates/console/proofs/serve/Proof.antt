@@ -74,7 +74,10 @@ returns-2 : tie.Need-returns-2 Inv-loop μ-loop
 returns-2 c = λ e. absurd (true≢false e)
 
 add-at : tie.Need-add-at Inv-loop μ-loop
-add-at c = let p = used (c .before .before .before .before .before .before .before .before) in omega (arith, p .1)
+add-at c =
+    let p = used (c .before .before .before .before .before .before .before .before) in
+    let s = c .before .before .before .before .before .before .before .before .before .before .before .before .before .before .before in
+    omega (arith, p .1, s .pre .1)
 
 loop-less : tie.Need-loop-less Inv-loop μ-loop
 loop-less c = let p = used (c .before .before .before .before .before .before .before .before) in omega (arith, p .0, p .1)
