@@ -1,5 +1,5 @@
 /* examples/inventory.c with its calls of the system under watch, for tests/inventory/run: with CUT=k in the environment the program ends before the
-   k-th call, as in a power cut, with FAIL=k the k-th call fails, and with CALLS=FILE the names of the calls are written there. */
+   k-th call, as in a power cut, with FAIL=k the k-th call fails, and with CUT_LOG=FILE the names of the calls are written there. */
 #define _POSIX_C_SOURCE 200809L
 #include <errno.h>
 #include <fcntl.h>
@@ -20,7 +20,7 @@ static long asked(const char *name)
 static int fails(const char *name)
 {
     static long calls;
-    const char *log = getenv("CALLS");
+    const char *log = getenv("CUT_LOG");
     FILE *f = log == NULL ? NULL : fopen(log, "a");
     if (f != NULL && (fprintf(f, "%s\n", name) < 0 || fclose(f) != 0))
         _exit(CUT_STATUS);
