@@ -5,7 +5,6 @@ use mathlib.Core.Path.{_≡_, refl, sym, _∙_, ap, ap₂, subst}
 use mathlib.Core.Bool.{Bool, true, false, cond, not}
 use mathlib.Core.List.{List, [], _∷_}
 use lib.Dec.{eqb}
-use borrow.Author.Tests.{lt-ltb}
 use Rattle.ground.proofs.Cases.{if, clash}
 use Rattle.lists.proofs.Needed.{each-needed}
 use Rattle.profiles.specs.Profiles.{profileOk, breaks, settles}
@@ -13,7 +12,7 @@ use Rattle.profiles.specs.declared.Profile.{Profile}
 use Rattle.sheet.specs.Limits.{mostMarks, entries}
 use Rattle.sheet.specs.Record.{isIn, isOut, isEither, Record, inClass, notOut, Obeys, openedUnder}
 use Rattle.sheet.specs.Sound.{Ready}
-use Rattle.sheet.specs.Calls.{changeNo, amountNo, didOf}
+use Rattle.sheet.specs.Calls.{changeNo, amountNo}
 use Rattle.sheet.specs.declared.Answer.{Answer}
 use Rattle.sheet.specs.declared.Call.{Call}
 use Rattle.sheet.specs.declared.Call.the-variants.{Change, Receive, Withdraw}
@@ -26,7 +25,7 @@ use Rattle.sheet.proofs.Tests.{change-2, change-settled}
 use Rattle.stored.proofs.IsForm.{is-form}
 use Rattle.stored.specs.declared.Layout.the-variants.{First}
 use Rattle.pla.proofs.Drawings.{drawn-profile}
-use Rattle.histories.specs.Histories.{Good, numberOf, accepted, after, afterAll, sheetAfter}
+use Rattle.histories.specs.Histories.{numberOf, accepted, after, afterAll, sheetAfter}
 use Rattle.histories.proofs.Afresh.{ready-afresh}
 use Rattle.histories.proofs.Histories.{sheet-afresh, good-all}
 use Rattle.vault.specs.Sequences.{Entry, changing, copying, called, entryNumber, afterEntry}

@@ -33,7 +33,7 @@ use Rattle.stored.proofs.Runs.{goes}
 use Rattle.stored.proofs.Numbers.{number-front, drop-front, number-one, bytes-length}
 use Rattle.stored.proofs.Listed.{count, count-le}
 use Rattle.stored.proofs.Groups.{profile-back}
-use Rattle.stored.proofs.IsForm.{Storable, Carries, Tells}
+use Rattle.stored.proofs.IsForm.{Storable, Tells}
 
 -- how far each section was read: its combinations below a number
 record Far : Type 0 where

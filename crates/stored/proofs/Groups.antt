@@ -1,6 +1,6 @@
 -- The profile behind the sections: the bytes of a profile are read as it, and what is read there is the bytes of the profile that it makes.
 use Prim.Native.Nat.{ℕ, _+_}
-use mathlib.Core.Path.{_≡_, refl, sym, ap, ap₂, _∙_, subst}
+use mathlib.Core.Path.{_≡_, refl, ap, _∙_, subst}
 use mathlib.Core.Bool.{true}
 use mathlib.Core.List.{List, [], _∷_, _++_}
 use mathlib.Core.Logic.{_⊎_, inl, inr, ⊎-elim}
@@ -15,7 +15,7 @@ use Rattle.sheet.specs.Record.{Record, withProfile, Obeys}
 use Rattle.stored.specs.Fields.{Bytes, numberIn, groups, group, due, perhaps, groupsDue, judge, Outcome, good, Run, without, with, obeyed, done}
 use Rattle.stored.specs.Form.{bytes, profileBytes}
 use Rattle.stored.proofs.Runs.{took, passed, completed, goes}
-use Rattle.stored.proofs.Numbers.{bytes-drop, bytes-split, byte-split, number-one, number-front}
+use Rattle.stored.proofs.Numbers.{bytes-split, byte-split, number-one, number-front}
 
 -- without a profile nothing is asked
 
