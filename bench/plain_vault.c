@@ -152,10 +152,8 @@ static struct vault_reply searched(unsigned marks, uint32_t class, uint32_t eith
     if (room < VAULT_COMBINATIONS(marks))
         return reply(VAULT_ROOM, 0, 0);
     size_t k = plain_shortest(marks, class, class | either, own, &laid);
-    if (k == 0)
-        return reply(VAULT_NO_LIST, 0, 0);
-    memcpy(list, own, k - 1);
-    return reply(VAULT_DONE, 0, k - 1);
+    memcpy(list, own, k);
+    return reply(VAULT_DONE, 0, k);
 }
 
 struct vault_reply plain_list(const uint8_t *sheet, size_t n, uint8_t *list, size_t room)

@@ -181,7 +181,7 @@ JOB(list_g, value(glpk_length(f->class)))
 #define list_g NULL
 #endif
 JOB(search, value(seek_shortest(5, f->class, f->room, out, VAULT_LIST_SIZE)))
-JOB(search_s, value(plain_shortest(5, f->class, f->room, out, &(uint64_t){0})))
+JOB(search_s, value(plain_shortest(5, f->class, f->room, out, &(uint64_t){0}) + 1)) /* as the library's tells it */
 JOB(receive, vault_receive(f->bytes, f->n, f->c, f->seconds, out, VAULT_FORM_SIZE))
 JOB(receive_s, tables_receive(f->bytes, f->n, f->c, f->seconds, out, VAULT_FORM_SIZE))
 JOB(receive_p, plain_receive(f->bytes, f->n, f->c, f->seconds, out, VAULT_FORM_SIZE))

@@ -66,14 +66,14 @@ extern "C" {
 #endif
 
 /* The version, as three numbers and as text with dots between. The three lines are its one source: Makefile and vault.pc take it from here. */
-#define VAULT_VERSION_MAJOR 3
-#define VAULT_VERSION_MINOR 1
+#define VAULT_VERSION_MAJOR 4
+#define VAULT_VERSION_MINOR 0
 #define VAULT_VERSION_PATCH 0
 #define VAULT_DOTTED(a, b, c) #a "." #b "." #c
 #define VAULT_DOTTED_VALUES(a, b, c) VAULT_DOTTED(a, b, c)
 #define VAULT_VERSION VAULT_DOTTED_VALUES(VAULT_VERSION_MAJOR, VAULT_VERSION_MINOR, VAULT_VERSION_PATCH)
 
-/* The answers. The program months has one more, 11, for a date; no entry gives it. */
+/* The answers. Two numbers are none of them: 6 is not used, since every class has a list; 11 is for a date, and the program months alone gives it. */
 enum vault_answer {
     VAULT_DONE = 0,        /* done */
     VAULT_MARKS = 1,       /* opening or reading with marks not 1 to 5 */
@@ -81,7 +81,6 @@ enum vault_answer {
     VAULT_STANDING = 3,    /* a class change to the standing already had */
     VAULT_AMOUNT = 4,      /* an amount not 1 to 35,999 seconds */
     VAULT_ROOM = 5,        /* lent room too short */
-    VAULT_NO_LIST = 6,     /* no fitting list exists: never met, since every class has one */
     VAULT_SPOILED = 7,     /* the sheet is spoiled: never met here, since a sheet that can be read is sound */
     VAULT_ABOVE = 8,       /* a receipt would take the seconds of a line above 4,000,000,000 */
     VAULT_BELOW = 9,       /* a withdrawal would take the seconds of a line below 0 */

@@ -27,7 +27,6 @@ static inline const char *vault_answer_text(uint64_t answer)
     case VAULT_STANDING: return "stands so already";
     case VAULT_AMOUNT: return "a time from 0:01 to 599:59 is wanted";
     case VAULT_ROOM: return "the area is too short";
-    case VAULT_NO_LIST: return "no list exists";
     case VAULT_SPOILED: return "the sheet is spoiled";
     case VAULT_ABOVE: return "more than a sheet can hold";
     case VAULT_BELOW: return "less is held";

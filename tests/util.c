@@ -31,13 +31,13 @@ static int alike(struct vault_verdict a, struct vault_verdict b)
 
 static void answers(void)
 {
-    const char *none = vault_answer_text(11); /* a number of the program months alone */
+    const char *none = vault_answer_text(14);
     for (uint64_t a = 0; a <= VAULT_PROFILE; a++) {
-        check((strcmp(vault_answer_text(a), none) == 0) == (a == 11), "an answer without words", a);
-        for (uint64_t b = 0; b < a; b++)
+        int unused = a == 6 || a == 11; /* 11 is a number of the program months alone */
+        check((strcmp(vault_answer_text(a), none) == 0) == unused, "an answer without words", a);
+        for (uint64_t b = 0; b < a && !unused; b++)
             check(strcmp(vault_answer_text(a), vault_answer_text(b)) != 0, "two answers with the same words", a);
     }
-    check(strcmp(vault_answer_text(14), none) == 0, "an answer that is none yet", 14);
     check(strcmp(vault_answer_text(UINT64_MAX), none) == 0 && strcmp(vault_answer_text(UINT64_C(0x100000000)), none) == 0, "no answer", 0);
 }
 

@@ -8,14 +8,14 @@ use Rattle.sheet.specs.Promises.{Agree}
 use Rattle.sheet.specs.declared.Sheet.{Sheet}
 use Rattle.sheet.specs.declared.Value.{Value}
 use Rattle.sheet.proofs.Agrees.{agree-back, record-same, class-ready-same, ready-same}
-use Rattle.listing.specs.Listing.{totalOf, Searched, Listed, Totalled}
+use Rattle.listing.specs.Listing.{totalOf, Laid, Listed, Totalled}
 
 pub list-alike : {most : ℕ} {s u : Sheet} {area later : List ℕ} {v : Value} → Agree s u → Listed most s area v later → Listed most u area v later
 list-alike a (Listed.spoiled n) = Listed.spoiled (λ r. n (class-ready-same (agree-back a) r))
 list-alike {area = area} a (Listed.short r l) = Listed.short (class-ready-same a r) (subst (λ (m : ℕ). length area < 2 ^ m) (a .marks) l)
-list-alike {area = area} {later} {v} a (Listed.searched r l w) =
-    Listed.searched (class-ready-same a r) (subst (λ (m : ℕ). 2 ^ m ≤ length area) (a .marks) l)
-    (subst (λ (x : Record). Searched (x .marks) (inClass x) (notOut x) area v later) (record-same a) w)
+list-alike {area = area} {later} a (Listed.given {n} r l w) =
+    Listed.given (class-ready-same a r) (subst (λ (m : ℕ). 2 ^ m ≤ length area) (a .marks) l)
+    (subst (λ (x : Record). Laid (x .marks) (inClass x) (notOut x) area n later) (record-same a) w)
 
 pub total-alike : {most : ℕ} {s u : Sheet} {v : Value} → Agree s u → Totalled most s v → Totalled most u v
 total-alike a (Totalled.spoiled n) = Totalled.spoiled (λ r. n (ready-same (agree-back a) r))

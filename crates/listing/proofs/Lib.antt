@@ -1,6 +1,6 @@
 pub mod Filled
 pub mod Given
-pub mod Finds
+pub mod Laid
 pub mod Settled
 pub mod Lines
 pub mod Agrees

@@ -10,11 +10,11 @@ ghost use mathlib.Core.Bool.{_&&_};
 ghost use lib.Dec.{eqb, ltb};
 ghost use Rattle.tables.specs.Tables.{own};
 ghost use Rattle.sets.specs.Sets.{has};
-ghost use Rattle.listing.specs.Listing.{taken, totalOf, Searched, Listed, Totalled};
+ghost use Rattle.lists.specs.Lists.{Within};
+ghost use Rattle.listing.specs.Listing.{taken, totalOf, Laid, Listed, Totalled};
 ghost use Rattle.listing.specs.Parts.{BitsOf};
 use boxes;
 use seek;
-use seek::Found;
 use sheet::Sheet;
 use sheet::Value;
 
@@ -59,26 +59,16 @@ pub fn area() -> [u8; 32]
     [0u8; 32]
 }
 
-// The first shortest list of m marks that covers `need` inside `room`. The search has an area of its own; the lent one gets the finished list.
-fn searched(m: usize, need: u32, room: u32, area: &mut [u8]) -> Value
-    requires { ⌜ (m ≤ mostMarks) × (need < 2 ^ (2 ^ m)) × (2 ^ m ≤ length (now area)) ⌝ }
-    ensures { λ r. ⌜ Searched m (has need) (has room) (now (area .entry)) r (now (area .exit)) ⌝ }
+// Lays the first shortest list of m marks that covers `need` inside `room`: how many boxes it has. The search has an area of its own; the lent one gets the
+// finished list.
+fn lay(m: usize, need: u32, room: u32, area: &mut [u8]) -> usize
+    requires { ⌜ (m ≤ mostMarks) × (need < 2 ^ (2 ^ m)) × Within (has need) (has room) × (2 ^ m ≤ length (now area)) ⌝ }
+    ensures { λ r. ⌜ Laid m (has need) (has room) (now (area .entry)) r (now (area .exit)) ⌝ }
 {
     let mut own = crate::area();
     let n = boxes::power2(m);
-    match seek::shortest(m, need, room, &mut own[..n]) {
-        Found::Boxes(k) => {
-            ground::put(area, 0, &own[..k]);
-            Value {
-                number: 0,
-                value: k as u64,
-            }
-        }
-        Found::Nothing => Value {
-            number: 6,
-            value: 0,
-        },
-    }
+    let k = seek::shortest(m, need, room, &mut own[..n]);
+    ground::put(area, 0, &own[..k])
 }
 
 // The list of a sheet whose class table is sound.
@@ -96,7 +86,11 @@ pub fn list_sound(sheet: Sheet, area: &mut [u8]) -> Value
         };
     }
     let told = class_bits(m, &outside, &either);
-    searched(m, told.need, told.room, area)
+    let k = lay(m, told.need, told.room, area);
+    Value {
+        number: 0,
+        value: k as u64,
+    }
 }
 
 // The shortest list of the sheet's class, in the lent area: its length.

@@ -12,8 +12,8 @@ use borrow.Author.Tests.{eq-eqb, ne-eqb, eqb-true, lt-ltb, le-ltb}
 use Rattle.boxes.specs.Boxes.{agrees, contains, through, single}
 use Rattle.ground.proofs.Cases.{if, clash, below-or, same-or, and-left, and-right}
 use Rattle.boxes.proofs.Choices.{through-lt, single-contains}
-use Rattle.lists.specs.Lists.{Fits, FirstShortest, Small}
-use Rattle.lists.proofs.Fit.{less, fits-cons, fits-none, fits-room, fits-small}
+use Rattle.lists.specs.Lists.{Fits, FirstShortest, Small, Within}
+use Rattle.lists.proofs.Fit.{less, fits-cons, fits-none, fits-room, fits-within}
 
 -- the box of c with mark 0 free contains the combinations that agree with c in the other marks
 pair-contains : (m c d : ℕ) → contains (suc m) (through (suc m) c 1) d ≡ contains m (single m (c / 2)) (d / 2)
@@ -111,8 +111,8 @@ module _ (m : ℕ) (need : ℕ → Bool) where
       (λ t. rw (t, and-false (ltb (c / 2) (2 ^ m))))) in
       (y .0, subst (λ (q : ℕ → Bool). Fits (suc m) q q (y .0)) e (y .1), y .2)
 
--- A LIST EXISTS exactly where what is needed has room: the other half is `fits-small`
-pub exists : (m : ℕ) (need room : ℕ → Bool) → Small m need → ((c : ℕ) → need c ≡ true → room c ≡ true) → (l : List ℕ) × Fits m need room l × (length l ≤ 2 ^ m)
+-- A LIST EXISTS exactly where what is needed has room: the other half is `fits-within`
+pub exists : (m : ℕ) (need room : ℕ → Bool) → Small m need → Within need room → (l : List ℕ) × Fits m need room l × (length l ≤ 2 ^ m)
 unfolding contains
 exists zero need room s h = if (need 0)
     (λ e. (
@@ -130,9 +130,9 @@ exists (suc m) need room s h =
 
 -- A FIRST SHORTEST LIST HAS AT MOST 2 ^ m BOXES, and half as many where there is a mark
 pub at-most : (m : ℕ) {need room : ℕ → Bool} {l : List ℕ} → Small m need → FirstShortest m need room l → length l ≤ 2 ^ m
-at-most m {need} {room} s f = let y = exists m need room s (fits-small m (f .fits)) in omega (arith, f .shortest (y .0) (y .1), y .2)
+at-most m {need} {room} s f = let y = exists m need room s (fits-within m (f .fits)) in omega (arith, f .shortest (y .0) (y .1), y .2)
 
 pub at-most-half : (m : ℕ) {need room : ℕ → Bool} {l : List ℕ} → Small (suc m) need → FirstShortest (suc m) need room l → length l ≤ 2 ^ m
 at-most-half m {need} {room} s f =
     let y = half-exists m need s in
-    omega (arith, f .shortest (y .0) (fits-room (suc m) room (fits-small (suc m) (f .fits)) (y .1)), y .2)
+    omega (arith, f .shortest (y .0) (fits-room (suc m) room (fits-within (suc m) (f .fits)) (y .1)), y .2)

@@ -9,7 +9,7 @@ use borrow.Author.Tests.{not-true}
 use Rattle.boxes.specs.Boxes.{contains}
 use Rattle.boxes.specs.Sums.{sumOver}
 use Rattle.ground.proofs.Cases.{if, clash, below-or, and-left, and-right}
-use Rattle.lists.specs.Lists.{Boxes, covered, Apart, Fits, firstFrom, lowestOf}
+use Rattle.lists.specs.Lists.{Boxes, covered, Apart, Fits, Within, firstFrom, lowestOf}
 use Rattle.lists.proofs.Count.{times, covered-in, covered-out, counted, fits-counted}
 
 -- ---- the first number in a set
@@ -97,12 +97,12 @@ module _ (m : ℕ) where
   fits-none need room h = record { boxes = tt; apart = tt; covers = λ c t. absurd (h c t); inside = λ c t. absurd (false≢true t) }
 
   -- more room
-  pub fits-room : {need room : ℕ → Bool} (more : ℕ → Bool) {l : List ℕ} → ((c : ℕ) → room c ≡ true → more c ≡ true) → Fits m need room l → Fits m need more l
+  pub fits-room : {need room : ℕ → Bool} (more : ℕ → Bool) {l : List ℕ} → Within room more → Fits m need room l → Fits m need more l
   fits-room more h f = record { boxes = f .boxes; apart = f .apart; covers = f .covers; inside = λ c t. h c (f .inside c t) }
 
-  -- what is needed has room, and is below 2 ^ m, wherever a list fits
-  pub fits-small : {need room : ℕ → Bool} {l : List ℕ} → Fits m need room l → (c : ℕ) → need c ≡ true → room c ≡ true
-  fits-small f c t = f .inside c (f .covers c t)
+  -- what is needed has room wherever a list fits
+  pub fits-within : {need room : ℕ → Bool} {l : List ℕ} → Fits m need room l → Within need room
+  fits-within f c t = f .inside c (f .covers c t)
 
   -- ---- in any order: the box on a combination is drawn to the front
   pub record Drawn (c : ℕ) (k : List ℕ) : Type 0 where

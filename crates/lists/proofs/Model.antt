@@ -14,7 +14,7 @@ use Rattle.boxes.specs.Boxes.{contains, through}
 use Rattle.ground.proofs.Cases.{if, clash, below-or, and-left, and-right}
 use Rattle.boxes.proofs.Boxes.{contains-combination}
 use Rattle.boxes.proofs.Choices.{through-lt}
-use Rattle.lists.specs.Lists.{Fits, lowestOf, FirstShortest, AtLeast, Small}
+use Rattle.lists.specs.Lists.{Fits, lowestOf, FirstShortest, AtLeast, Small, Within}
 use Rattle.lists.proofs.Fit.{less, Inside, lowest-true, lowest-le}
 use Rattle.lists.proofs.Lay.{none-needed, first-empty, some-box, Tried, tried-none, tried-next, longer-out, longer-deep, least-rest, laid-shortest, tried-all}
 use Rattle.lists.proofs.Exist.{exists}
@@ -126,7 +126,7 @@ module _ (m : ℕ) where
       (λ l q. let y : FirstShortest m need room l × (length l ≡ n) = subst (Right m need room n) q r in (l, rw (q, fewest), y .0))
 
 -- A FIRST SHORTEST LIST EXISTS wherever what is needed has room, and the search by sizes finds it
-pub found : (m : ℕ) (need room : ℕ → Bool) → Small m need → ((c : ℕ) → need c ≡ true → room c ≡ true)
+pub found : (m : ℕ) (need room : ℕ → Bool) → Small m need → Within need room
     → (l : List ℕ) × (fewest m need room (2 ^ m + 1) 0 ≡ some l) × FirstShortest m need room l
 found m need room s h =
     let x = exists m need room s h in

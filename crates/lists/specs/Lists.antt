@@ -39,6 +39,10 @@ AtLeast m need room n = (l : List ℕ) → Fits m need room l → n ≤ length l
 abbrev pub Small : ℕ → (ℕ → Bool) → Type 0
 Small m need = (c : ℕ) → need c ≡ true → c < 2 ^ m
 
+-- every combination of the first set is in the second, as where what is needed has room
+abbrev pub Within : (ℕ → Bool) → (ℕ → Bool) → Type 0
+Within need room = (c : ℕ) → need c ≡ true → room c ≡ true
+
 -- the first of the k numbers from f on that is in the set, and f + k where none is
 unfoldable pub firstFrom : (ℕ → Bool) → ℕ → ℕ → ℕ
 firstFrom p zero f = f

@@ -4,10 +4,10 @@ use mathlib.Core.Bool.{Bool, not, _&&_}
 use Prim.Native.Nat.{ℕ, _-_, _^_, _<_}
 use lib.Bits.{bitAnd}
 use lib.Count.{trailingZeros}
-use Rattle.ground.proofs.Cases.{if, below-or, and-right}
+use Rattle.ground.proofs.Cases.{below-or}
 use Rattle.boxes.specs.Boxes.{contains}
 use Rattle.sets.specs.Sets.{has}
-use Rattle.sets.proofs.Bits.{has-and, has-not, has-high, bits-same, zeros-needed, zeros-lt, zeros-below}
+use Rattle.sets.proofs.Bits.{has-and, has-not, has-high, within-yes, within-no, zeros-needed, zeros-lt, zeros-below}
 use Rattle.lists.specs.Lists.{lowestOf}
 use Rattle.lists.proofs.Fit.{less, Inside, lowest-is}
 
@@ -22,12 +22,10 @@ module _ (m b s : ℕ) (bits : (c : ℕ) → has s c ≡ contains m b c) where
 
   -- `s & r == s` tells whether the box lies in r
   pub inside-yes : (r : ℕ) → bitAnd s r ≡ s → Inside m b (has r)
-  inside-yes r e c t = and-right (has s c) _ (sym (has-and c s r) ∙ ap (λ (x : ℕ). has x c) e ∙ bits c ∙ t)
+  inside-yes r e c t = within-yes s r e c (bits c ∙ t)
 
   pub inside-no : (r : ℕ) → (bitAnd s r ≡ s → ⊥) → Inside m b (has r) → ⊥
-  inside-no r n i = n (bits-same _ _ (λ c. has-and c s r ∙ if (has s c)
-      (λ t. rw (t, i c (sym (bits c) ∙ t)))
-      (λ t. rw t)))
+  inside-no r n i = within-no s r n (λ c t. i c (sym (bits c) ∙ t))
 
 -- where the set is not empty, `trailing_zeros` is its lowest combination
 pub zeros-lowest : (m u : ℕ) → u < 2 ^ 32 → u < 2 ^ (2 ^ m) → (u ≡ 0 → ⊥) → lowestOf m (has u) ≡ trailingZeros 32 u

@@ -8,12 +8,6 @@ ghost use Rattle.sets.specs.Sets.{setMarks, has, valueAt, Sets, Singles};
 ghost use Rattle.seek.specs.Answer.{Askable, Sought};
 ghost use Rattle.seek.specs.Steps.{Reached, Stage, Node, Certified, weight};
 
-// What is sought: the number of boxes, which stand at the front of the area; or nothing, where no list fits.
-pub enum Found {
-    Boxes(usize),
-    Nothing,
-}
-
 // The box through the combination c with the free marks t.
 fn box_on(m: usize, singles: &[usize; 32], c: usize, t: usize) -> usize
     requires { ⌜ (m ≤ setMarks) × Singles m (now singles) × (c < 2 ^ m) × (t < 2 ^ m) ⌝ }
@@ -208,9 +202,9 @@ fn of_size(
     cover(m, sets, singles, costs, need, room, k, all - plus, area)
 }
 
-// The first shortest list that covers `need` inside `room`, at the front of the area.
-pub fn shortest(m: usize, need: u32, room: u32, area: &mut [u8]) -> Found
-    requires { ⌜ Askable m need (now area) ⌝ }
+// The first shortest list that covers `need` inside `room`, at the front of the area: how many boxes it has.
+pub fn shortest(m: usize, need: u32, room: u32, area: &mut [u8]) -> usize
+    requires { ⌜ Askable m need room (now area) ⌝ }
     ensures { λ r. ⌜ Sought m (has need) (has room) r (now (area .exit)) ⌝ }
 {
     let sets = sets::sets();
@@ -219,13 +213,9 @@ pub fn shortest(m: usize, need: u32, room: u32, area: &mut [u8]) -> Found
     let costs = known.costs;
     let plus = known.plus;
     let minus = known.minus;
-    let n = boxes::power2(m);
     let mut k: usize = 0;
-    while k <= n {
-        if of_size(m, &sets, &singles, &costs, need, room, k, plus, minus, area) {
-            return Found::Boxes(k);
-        }
+    while !of_size(m, &sets, &singles, &costs, need, room, k, plus, minus, area) {
         k += 1;
     }
-    Found::Nothing
+    k
 }

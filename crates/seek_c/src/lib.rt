@@ -1,8 +1,8 @@
 // The search for a C program, by itself: what bench/ times.
 ghost use Rattle.seek_c.specs.Told.{Told};
 
-// The first shortest list that covers `need` inside `room`, at the front of the area: the number of its boxes, and 1. 0 where no list fits, where
-// marks are above 5, where `need` has a combination not below 2^marks, and where the area has fewer than 2^marks bytes.
+// The first shortest list that covers `need` inside `room`, at the front of the area: the number of its boxes, and 1. 0 where marks are
+// above 5, where the area has fewer than 2^marks bytes, and where `need` has a combination not below 2^marks or one that has no room.
 #[no_mangle]
 pub extern "C" fn seek_shortest(marks: usize, need: u32, room: u32, area: &mut [u8]) -> usize
     ensures { λ r. ⌜ Told marks need room r (now (area .entry)) (now (area .exit)) ⌝ }
@@ -18,8 +18,8 @@ pub extern "C" fn seek_shortest(marks: usize, need: u32, room: u32, area: &mut [
     if wide >> n != 0 {
         return 0;
     }
-    match seek::shortest(marks, need, room, area) {
-        seek::Found::Boxes(k) => k + 1,
-        seek::Found::Nothing => 0,
+    if need & room != need {
+        return 0;
     }
+    seek::shortest(marks, need, room, area) + 1
 }

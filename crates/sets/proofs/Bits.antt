@@ -120,6 +120,14 @@ bits-same = bin-ind (λ (a : ℕ). (b : ℕ) → ((c : ℕ) → has a c ≡ has 
     let r : a % 2 ≡ b % 2 = low-same (a % 2) (b % 2) (omega arith) (omega arith) (h 0) in
     omega arith)
 
+-- `a & b == a` tells whether a set lies in another
+
+pub within-yes : (a b : ℕ) → bitAnd a b ≡ a → (c : ℕ) → has a c ≡ true → has b c ≡ true
+within-yes a b e c t = and-right (has a c) _ (sym (has-and c a b) ∙ ap (λ (x : ℕ). has x c) e ∙ t)
+
+pub within-no : (a b : ℕ) → (bitAnd a b ≡ a → ⊥) → ((c : ℕ) → has a c ≡ true → has b c ≡ true) → ⊥
+within-no a b n w = n (bits-same _ _ (λ c. has-and c a b ∙ if (has a c) (λ t. rw (t, w c t)) (λ t. rw t)))
+
 -- what a bit, turned, tells
 pub has-out : (c u : ℕ) → 1 - u / 2 ^ c % 2 ≡ only (not (has u c)) 1
 has-out c u = mark (λ (v : ℕ). 1 - v ≡ only (not (eqb v 1)) 1) (u / 2 ^ c % 2) (omega arith) refl refl ∙ ap (λ (t : Bool). only (not t) 1) (sym (has-shr c u))

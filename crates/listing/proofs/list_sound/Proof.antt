@@ -1,12 +1,14 @@
--- 5 where the area is too short; else the search's answer.
+-- 5 where the area is too short; else the list is laid.
 use mathlib.Core.Path.{_≡_}
 use native.Mathlib.Omega.{arith}
 use lib.ListN.{length}
 use borrow.Author.Needs.{needs}
-use Rattle.listing.specs.Listing.Listed.{short, searched}
-use Rattle.listing.proofs.Given.{searched-told}
+use Rattle.listing.specs.Listing.Listed.{short, given}
+use Rattle.listing.proofs.Given.{laid-told, within-told}
 use Rattle.sheet.proofs.Tests.{marks-most}
+use Rattle.sheet.proofs.Told.{in-not-out}
 use Rattle.sheet.specs.Limits.{entries, mostMarks}
+use Rattle.sheet.specs.Sound.{recordOf}
 use Rattle.listing.proofs.list_sound.Statement.{statement}
 use Rattle.listing.proofs.list_sound.Tie as tie
 
@@ -30,10 +32,17 @@ class-bits-requires c κs =
     let s = c .before .before .before .before .before .before .before in
     (marks-most mostMarks _ (s .pre .marks), omega (arith, long s .0), omega (arith, long s .1))
 
-searched-requires : tie.Need-searched-requires
-searched-requires c κs =
+lay-requires : tie.Need-lay-requires
+lay-requires c κs =
     let p = c .before .before .before .before .before in
-    (marks-most mostMarks _ (p .before .before .before .before .pre .marks), c .before .class-bits .ensures .small, omega (arith, p .power2 .ensures .0))
+    let s = p .before .before .before .before in
+    let told = c .before .class-bits .ensures in
+    let sheet = s .args .sheet in (
+      marks-most mostMarks _ (s .pre .marks),
+      told .small,
+      within-told (told .need (sheet .profile) (sheet .held)) (told .room (sheet .profile) (sheet .held)) (in-not-out (recordOf sheet)),
+      omega (arith, p .power2 .ensures .0),
+    )
 
 same-length : tie.Need-same-length
 same-length c = search needs
@@ -45,8 +54,8 @@ returns-2 c =
     let s = p .before .before .before .before in
     let told = b .class-bits .ensures in
     let sheet = s .args .sheet in
-    searched (s .pre) (omega (arith, p .power2 .ensures .0))
-    (searched-told (told .need (sheet .profile) (sheet .held)) (told .room (sheet .profile) (sheet .held)) (c .before .before .searched .ensures))
+    given (s .pre) (omega (arith, p .power2 .ensures .0))
+    (laid-told (told .need (sheet .profile) (sheet .held)) (told .room (sheet .profile) (sheet .held)) (c .before .before .lay .ensures))
 
 pub list-sound-spec : {M : Type 1} → statement M
 list-sound-spec =
@@ -57,6 +66,6 @@ list-sound-spec =
     slice-aggregate-class-bits
     slice-aggregate-class-bits-2
     class-bits-requires
-    searched-requires
+    lay-requires
     same-length
     returns-2)
