@@ -14,7 +14,7 @@ use Rattle.lists.specs.Lists.{covered, Small}
 use Rattle.lists.specs.Pottosin.{Joined}
 use Rattle.sheet.specs.declared.Sheet.{Sheet}
 use Rattle.sheet.proofs.Ready.{class-ready-or}
-use Rattle.listing.proofs.Finds.{class-small}
+use Rattle.listing.proofs.Laid.{class-small}
 use Rattle.checking.specs.declared.Fault.the-variants as fault
 use Rattle.checking.specs.declared.Finding.{Finding}
 use Rattle.checking.specs.declared.Finding.the-variants.{Spoiled, Fitting, Faulty}

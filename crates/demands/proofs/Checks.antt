@@ -56,7 +56,7 @@ front {s} {area} {later} {v} w z =
     ready : {area later : List ℕ} {v : Value} → Listed mostMarks s area v later → v .number ≡ 0 → ClassReady mostMarks s
     ready (Listed.spoiled n) e = absurd (omega arith)
     ready (Listed.short r h) e = r
-    ready (Listed.searched r h w) e = r
+    ready (Listed.given r h w) e = r
 
 given : {s : Sheet} {area later : List ℕ} {v : Value} {x : Finding} → Listed mostMarks s area v later → v .number ≡ 0
     → Checked mostMarks s (take (v .value) later) x → x ≡ Fitting

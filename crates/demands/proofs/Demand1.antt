@@ -7,7 +7,7 @@ use mathlib.Core.Logic.{_⊎_, ⊎-elim}
 use lib.Dec.{leb, ltb}
 use lib.ListN.{getD}
 use borrow.Author.Tests.{ne-eqb}
-use Rattle.ground.proofs.Cases.{if}
+use Rattle.ground.proofs.Cases.{if, clash}
 use Rattle.tables.specs.Tables.{touched}
 use Rattle.profiles.specs.Profiles.{settles, profileOf, namesOk}
 use Rattle.sheet.specs.Limits.{mostMarks, entries, marksOk, amountOk}
@@ -22,7 +22,7 @@ use Rattle.sheet.specs.declared.Sheet.{Sheet}
 use Rattle.sheet.specs.declared.Answer.{Answer}
 use Rattle.sheet.specs.declared.Value.{Value}
 use Rattle.sheet.proofs.Answers.{open-done, open-refused, open-under-done, open-under-faulty, open-under-refused}
-use Rattle.listing.specs.Listing.{Searched, Listed, Totalled}
+use Rattle.listing.specs.Listing.{Listed, Totalled}
 use Rattle.stored.specs.Fields.{marks, due, Outcome, good, refused, Run}
 use Rattle.stored.specs.Answers.{readOf, ReadBy, Writes}
 use Rattle.stored.specs.Sections.{Rest}
@@ -125,8 +125,7 @@ total-refuses (Totalled.told w) = done refl
 list-refuses : {s : Sheet} {area later : List ℕ} {v : Value} → Listed mostMarks s area v later → Refuses (ofValue v) (bytes area) (bytes later)
 list-refuses (Listed.spoiled n) = left refl nought
 list-refuses (Listed.short w l) = left refl nought
-list-refuses (Listed.searched w l (Searched.none n)) = left refl nought
-list-refuses (Listed.searched w l (Searched.given f)) = done refl
+list-refuses (Listed.given w l x) = done refl
 
 write-refuses : {s : Sheet} {out later : List ℕ} {v : Value} → Writes mostMarks s out v later → Refuses (ofValue v) (bytes out) (bytes later)
 write-refuses (Writes.spoiled n) = left refl nought
@@ -256,6 +255,7 @@ every (Made.vault-read-time a) = answer-refuses a
 pub demand-1 : Demand1
 demand-1 = record {
   every-call = every;
+  no-six = λ m e. clash (every m .of-table) (ap inTable e);
   opening = λ m. open-as (λ (a : Answer). (a .number ≡ 0 → ⊥) → a .sheet ≡ sheetOf entries (opened 1)) m (λ n. absurd (n refl)) (λ n. refl);
   opening-under = λ m groups. open-under-as (λ (a : Answer). (a .number ≡ 0 → ⊥) → a .sheet ≡ sheetOf entries (opened 1)) m groups (λ n. absurd (n refl)) (λ n. refl) (λ n. refl);
   reading = λ layout. of-refusal;

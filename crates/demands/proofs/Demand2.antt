@@ -10,7 +10,7 @@ use Rattle.tables.specs.Tables.{entry}
 use Rattle.ground.proofs.Cases.{if, clash}
 use Rattle.lists.specs.Lists.{covered, Fits, Small, FirstShortest}
 use Rattle.lists.proofs.Class.{rising-same}
-use Rattle.lists.proofs.Exist.{at-most-half}
+use Rattle.lists.proofs.Exist.{exists, at-most-half}
 use Rattle.lists.proofs.First.{unique}
 use Rattle.lists.proofs.Pottosin.{fits-independent, first-smallest}
 use Rattle.sheet.specs.Limits.{mostMarks}
@@ -18,11 +18,12 @@ use Rattle.sheet.specs.Record.{isIn, isOut, isEither, Record, inClass, notOut, 
 use Rattle.sheet.specs.declared.Standing.{Standing}
 use Rattle.sheet.specs.declared.Standing.the-variants.{In, Out, Either}
 use Rattle.sheet.proofs.Tests.{some-marks}
+use Rattle.sheet.proofs.Told.{in-not-out}
 use Rattle.sheet.specs.Sound.{ClassReady, recordOf}
 use Rattle.sheet.specs.declared.Sheet.{Sheet}
 use Rattle.sheet.specs.declared.Value.{Value}
-use Rattle.listing.specs.Listing.{totalOf, Searched, Listed, Totalled}
-use Rattle.listing.proofs.Finds.{class-small, list-finds}
+use Rattle.listing.specs.Listing.{totalOf, Listed, Totalled}
+use Rattle.listing.proofs.Laid.{class-small, list-laid}
 use Rattle.listing.proofs.Lines.{kept-total}
 use Rattle.vault.specs.Entries.{Lends}
 use Rattle.vault.specs.declared.Reply.{Reply}
@@ -47,6 +48,9 @@ covers-class {m} {class} {l} f c =
     (λ e. f .covers c e ∙ sym e)
     (λ e. if (covered m l c) (λ w. clash (f .inside c w) e) (λ w. w ∙ sym e))
 
+some-fits : (r : Record) → Small (r .marks) (inClass r) → (l : List ℕ) × Fits (r .marks) (inClass r) (notOut r) l
+some-fits r small = let x = exists (r .marks) (inClass r) (notOut r) small (in-not-out r) in (x .0, x .1)
+
 lines : (r : Record) (l : List ℕ) → 1 ≤ r .marks → Small (r .marks) (inClass r) → FirstShortest (r .marks) (inClass r) (notOut r) l → Lines r l
 lines r l some small f =
     let m = r .marks in
@@ -65,7 +69,7 @@ module _ (s : Sheet) where
   class-lines {l} w f = lines (recordOf s) l (some-marks mostMarks (s .marks) (w .marks)) (class-small s) f
 
   given : {area later : List ℕ} {v : Value} → Listed mostMarks s area v later → ClassReady mostMarks s → 2 ^ s .marks ≤ length area → v .number ≡ 0
-  given w r l = ap (λ (x : Value). x .number) (list-finds w r l .answer)
+  given w r l = list-laid w r l .0
 
   total : {v : Value} → Totalled mostMarks s v → v .number ≡ 0 → v .value ≡ totalOf (recordOf s)
   total (Totalled.spoiled n) e = absurd (omega arith)
@@ -79,13 +83,12 @@ module _ (s : Sheet) where
   printed : {area later : List ℕ} {v : Value} → Listed mostMarks s area v later → v .number ≡ 0 → Printed s area v later
   printed (Listed.spoiled n) e = absurd (omega arith)
   printed (Listed.short w h) e = absurd (omega arith)
-  printed (Listed.searched w h (Searched.none n)) e = absurd (omega arith)
-  printed (Listed.searched w h (Searched.given {l} f)) e = record {
-    lines = l;
-    of-class = class-lines w f;
-    size = refl;
-    stands = refl;
-    seconds = λ t. seconds f t;
+  printed (Listed.given w h l) e = record {
+    lines = l .list;
+    of-class = class-lines w (l .right);
+    size = l .size;
+    stands = l .stands;
+    seconds = λ t. seconds (l .right) t;
   }
 
 entry-printed : {t area later : List ℕ} {r : Reply} → Lends (Listed mostMarks) t area r later → r .answer ≡ 0 → PrintedIn t area r later
@@ -93,4 +96,4 @@ entry-printed (Lends.unread u) z = absurd (u .bad (sym (ap (λ (x : Reply). x .a
 entry-printed (Lends.lent {s = s} h w) z = record { sheet = s; held-in = h; printed = printed s w z }
 
 pub demand-2 : Demand2
-demand-2 = record { given = λ {s} w. given s w; printed = λ {s} w. printed s w; entry = entry-printed; total = λ {s} w. total s w }
+demand-2 = record { exists = some-fits; of-sheet = λ s. some-fits (recordOf s) (class-small s); given = λ {s} w. given s w; printed = λ {s} w. printed s w; entry = entry-printed; total = λ {s} w. total s w }

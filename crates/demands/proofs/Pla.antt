@@ -25,7 +25,7 @@ use Rattle.sheet.specs.declared.Standing.{Standing}
 use Rattle.sheet.specs.declared.Standing.the-variants.{In, Out, Either}
 use Rattle.sheet.specs.declared.Value.{Value}
 use Rattle.sheet.proofs.Told.{in-not-out, not-out-low}
-use Rattle.listing.proofs.Finds.{class-small}
+use Rattle.listing.proofs.Laid.{class-small}
 use Rattle.stored.specs.Fields.{Outcome, good, refused}
 use Rattle.stored.specs.Answers.{readOf, Writes}
 use Rattle.stored.specs.declared.Read.{Read}

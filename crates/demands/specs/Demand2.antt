@@ -6,7 +6,7 @@ use mathlib.Core.List.{List, _++_}
 use lib.ListN.{length, drop}
 use Rattle.boxes.specs.Sums.{sumOver}
 use Rattle.tables.specs.Tables.{entry}
-use Rattle.lists.specs.Lists.{covered, LowRising, FirstShortest}
+use Rattle.lists.specs.Lists.{covered, Fits, Small, LowRising, FirstShortest}
 use Rattle.lists.specs.Pottosin.{SmallestMaximal}
 use Rattle.sheet.specs.Limits.{mostMarks}
 use Rattle.sheet.specs.Record.{Record, inClass, notOut, NoneEither}
@@ -46,7 +46,11 @@ pub record PrintedIn (t area : List ℕ) (r : Reply) (later : List ℕ) : Type 0
   pub printed : Printed sheet area (record { number = r .answer; value = r .value }) later
 
 pub record Demand2 : Type 0 where
-  -- a sound class gets its list wherever there is room: 6 never comes
+  -- a fitting list always exists, whatever is in, out and either, and whatever the profile,
+  pub exists : (r : Record) → Small (r .marks) (inClass r) → (l : List ℕ) × Fits (r .marks) (inClass r) (notOut r) l
+  -- also of every sheet, be it sound or not;
+  pub of-sheet : (s : Sheet) → (l : List ℕ) × Fits (s .marks) (inClass (recordOf s)) (notOut (recordOf s)) l
+  -- and a sound class gets its list wherever there is room
   pub given : {s : Sheet} {area later : List ℕ} {v : Value} → Listed mostMarks s area v later
       → ClassReady mostMarks s → 2 ^ s .marks ≤ length area → v .number ≡ 0
   pub printed : {s : Sheet} {area later : List ℕ} {v : Value} → Listed mostMarks s area v later → v .number ≡ 0 → Printed s area v later

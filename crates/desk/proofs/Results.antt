@@ -1,19 +1,18 @@
--- The result of a sheet worked out afresh from a record: what its calls tell is the record's, so that 5, 6 and 7 do not come, and what is laid
+-- The result of a sheet worked out afresh from a record: what its calls tell is the record's, so that 5 and 7 do not come, and what is laid
 -- piece by piece is the result.
 use mathlib.Core.Bool.{Bool}
 use Prim.Native.Nat.{ℕ, zero, suc, _+_, _*_, _^_, _≤_, _<_}
 use mathlib.Core.Path.{_≡_, sym, ap, ap₂, _∙_, subst}
 use mathlib.Core.List.{List, _++_}
 use native.Mathlib.Omega.{arith}
-use lib.ListN.{length, getD, take, drop, length-append}
-use lib.Seq.{take-at, length-take-le}
+use lib.ListN.{length, getD, take}
+use lib.Seq.{length-take-le}
 use Rattle.boxes.specs.Boxes.{sumIn}
 use Rattle.boxes.specs.Sums.{sum, only}
 use Rattle.ground.proofs.Cases.{if}
 use Rattle.ground.specs.Areas.{Wrote}
 use Rattle.ground.proofs.Areas.{wrote-length}
 use Rattle.boxes.proofs.Sums.{sum-le}
-use Rattle.lists.proofs.Exist.{at-most}
 use Rattle.tables.specs.Tables.{entry}
 use Rattle.sheet.specs.Limits.{mostMarks, entries}
 use Rattle.sheet.specs.Record.{Record, inClass, held-seconds, sheetOf}
@@ -24,6 +23,7 @@ use Rattle.sheet.specs.declared.Value.{Value}
 use Rattle.sheet.proofs.Opening.{combinations-fit}
 use Rattle.sheet.proofs.Tests.{boxes-fit, marks-most}
 use Rattle.listing.specs.Listing.{taken, totalOf, Listed, Totalled}
+use Rattle.listing.proofs.Laid.{laid-few, laid-inside, laid-is}
 use Rattle.histories.specs.Histories.{Good, Given}
 use Rattle.histories.proofs.Afresh.{kept-afresh, size-afresh, total-afresh, list-afresh}
 use Rattle.histories.proofs.Goods.{good-small}
@@ -46,25 +46,16 @@ module _ {r : Record} (good : Good r) where
 
   -- the list in an area of its own: its length, and the numbers that stand in front
   module _ {area later : List ℕ} {v : Value} (g : Given r area v later) where
-    count : v .value ≡ length (g .list)
-    count = ap (λ (x : Value). x .value) (g .value)
-
     count-small : v .value ≤ 32
-    count-small = omega (arith, count, at-most (r .marks) (good-small good) (g .right), combinations-fit (r .marks) marks-small)
-
-    pub count-inside : v .value ≤ length later
-    count-inside = omega (arith, count, ap length (g .stands), length-append (g .list) (drop (length (g .list)) area))
-
-    front : take (v .value) later ≡ g .list
-    front = ap (take (v .value)) (g .stands) ∙ take-at (g .list) (drop (length (g .list)) area) (v .value) (sym count)
+    count-small = omega (arith, laid-few (g .1) (good-small good), combinations-fit (r .marks) marks-small)
 
     front-long : length (take (v .value) later) ≡ v .value
-    front-long = length-take-le (v .value) later count-inside
+    front-long = length-take-le (v .value) later (laid-inside (g .1))
 
     pub front-inside : (held : List ℕ) → length held ≡ entries → HaveEntries (take (v .value) later) held
     front-inside held long k h =
-        let below = boxes-below (r .marks) (g .list) (g .right .fits .boxes) k (omega (arith, ap length front)) in
-        subst (λ (l : List ℕ). getD l k 0 < length held) (sym front) (omega (arith, below, boxes-fit (r .marks) (good .marks)))
+        let below = boxes-below (r .marks) (g .1 .list) (g .1 .right .fits .boxes) k (omega (arith, ap length (laid-is (g .1)))) in
+        subst (λ (l : List ℕ). getD l k 0 < length held) (sym (laid-is (g .1))) (omega (arith, below, boxes-fit (r .marks) (good .marks)))
 
 module _ {r : Record} {sheet : Sheet} (of : OfRecord sheet r) where
   pub sheet-marks : sheet .marks ≤ mostMarks
@@ -81,12 +72,12 @@ module _ {r : Record} {sheet : Sheet} (of : OfRecord sheet r) where
   total-told : {v : Value} → Totalled mostMarks sheet v → v ≡ record { number = 0; value = totalOf r }
   total-told {v} w = total-afresh r (of .good) v (subst (λ (s : Sheet). Totalled mostMarks s v) (of .is) w)
 
-  -- NEITHER 5 NOR 6 NOR 7 COMES when the result is printed
+  -- NEITHER 5 NOR 7 COMES when the result is printed
   pub never-refused : {area later : List ℕ} {size v total : Value} → 32 ≡ length area → ClassSize mostMarks sheet size → Listed mostMarks sheet area v later
       → Totalled mostMarks sheet total → (size .number ≡ 0) × (v .number ≡ 0) × (total .number ≡ 0)
   never-refused long sized listed totalled = (
     ap (λ (x : Value). x .number) (size-told sized),
-    ap (λ (x : Value). x .number) (given long listed .value),
+    given long listed .0,
     ap (λ (x : Value). x .number) (total-told totalled),
   )
 
@@ -124,8 +115,8 @@ module _ {r : Record} {sheet : Sheet} (of : OfRecord sheet r) where
       printed {total = total} totalled q short t =
           let lines =
           ap (λ (s : Sheet). boxLines (s .marks) (entry (s .held)) (take (v .value) later)) (of .is)
-          ∙ ap (boxLines (r .marks) (entry (sheetOf entries r .held))) (front (of .good) g)
-          ∙ lines-same (r .marks) (entry (sheetOf entries r .held)) (λ x. sumIn (r .marks) x (r .times)) (g .list) (g .right .fits .boxes)
+          ∙ ap (boxLines (r .marks) (entry (sheetOf entries r .held))) (laid-is (g .1))
+          ∙ lines-same (r .marks) (entry (sheetOf entries r .held)) (λ x. sumIn (r .marks) x (r .times)) (g .1 .list) (g .1 .right .fits .boxes)
           (λ b l. kept-afresh r (of .good) held-seconds b (omega (arith, boxes-fit (r .marks) (of .good .marks)))) in
           let last = last-length (total .value) (total-small totalled) in
           let small = count-small (of .good) g in
@@ -134,12 +125,12 @@ module _ {r : Record} {sheet : Sheet} (of : OfRecord sheet r) where
             text = heads (size .value) (v .value) ++ boxLines (sheet .marks) (entry (sheet .held)) (take (v .value) later) ++ lastLine (total .value);
             result =
                 record {
-                  list = g .list;
-                  first = g .right;
+                  list = g .1 .list;
+                  first = g .1 .right;
                   is =
                       ap₂ (λ (x : ℕ) (y : ℕ). heads x y ++ boxLines (sheet .marks) (entry (sheet .held)) (take (v .value) later) ++ lastLine (total .value))
-                      (ap (λ (x : Value). x .value) (size-told sized)) (count (of .good) g)
-                      ∙ ap₂ (λ (x : List ℕ) (y : ℕ). heads (sizeOf (r .marks) (inClass r)) (length (g .list)) ++ x ++ lastLine y) lines
+                      (ap (λ (x : Value). x .value) (size-told sized)) (g .1 .size)
+                      ∙ ap₂ (λ (x : List ℕ) (y : ℕ). heads (sizeOf (r .marks) (inClass r)) (length (g .1 .list)) ++ x ++ lastLine y) lines
                       (ap (λ (x : Value). x .value) (total-told totalled));
                 };
             wrote = wrote-three p q t (omega (arith, p .place, q .place, t .place, heads-short));

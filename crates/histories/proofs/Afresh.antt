@@ -23,11 +23,9 @@ use Rattle.sheet.specs.declared.Value.{Value}
 use Rattle.sheet.proofs.Kept.{class-sound, standing-told, times-sound}
 use Rattle.sheet.proofs.Keeps.{class-of-ready}
 use Rattle.sheet.proofs.Tests.{boxes-fit}
-use Rattle.sheet.proofs.Told.{in-not-out}
-use Rattle.listing.specs.Listing.{totalOf, Searched, Listed, Totalled}
-use Rattle.listing.proofs.Finds.{search-finds}
+use Rattle.listing.specs.Listing.{totalOf, Laid, Listed, Totalled}
+use Rattle.listing.proofs.Laid.{list-laid}
 use Rattle.histories.specs.Histories.{Good, Given}
-use Rattle.histories.proofs.Goods.{good-small}
 
 is-out : (s : Standing) → isOut s ≡ true → s ≡ Out
 is-out In e = clash e refl
@@ -82,13 +80,7 @@ module _ (r : Record) (good : Good r) where
   total-afresh v (Totalled.spoiled no-ready) = absurd (no-ready ready-afresh)
   total-afresh v (Totalled.told w) = ap (λ (n : ℕ). record { number = 0; value = n }) total-same
 
-  given-afresh : (area : List ℕ) (v : Value) (later : List ℕ) → Searched (r .marks) (inClass r) (notOut r) area v later → Given r area v later
-  given-afresh area v later found =
-      let f = search-finds (good-small good) (in-not-out r) found in
-      record { list = f .list; right = f .right; value = f .answer; stands = f .stands }
-
   pub list-afresh : (area : List ℕ) (v : Value) (later : List ℕ) → 2 ^ r .marks ≤ length area → Listed mostMarks (sheetOf entries r) area v later → Given r area v later
-  list-afresh area v later l (Listed.spoiled no-ready) = absurd (no-ready class-ready)
-  list-afresh area v later l (Listed.short w short) = absurd (omega arith)
-  list-afresh area v later l (Listed.searched w fits found) =
-      given-afresh area v later (subst (λ (p : ℕ → Standing). Searched (r .marks) (λ c. isIn (p c)) (λ c. not (isOut (p c))) area v later) standing-afresh found)
+  list-afresh area v later l w =
+      let x = list-laid w class-ready l in
+      (x .0, subst (λ (p : ℕ → Standing). Laid (r .marks) (λ c. isIn (p c)) (λ c. not (isOut (p c))) area (v .value) later) standing-afresh (x .1))

@@ -3,8 +3,7 @@
 use Prim.Native.Nat.{ℕ, _+_, _-_, _^_, _<_, _≤_}
 use mathlib.Core.Path.{_≡_}
 use mathlib.Core.Bool.{true, false, not, cond, _&&_}
-use mathlib.Core.List.{List, [], _∷_, _++_}
-use lib.ListN.{length, drop}
+use mathlib.Core.List.{List, [], _∷_}
 use lib.Dec.{eqb, leb, ltb}
 use Rattle.boxes.specs.Sums.{sum, only}
 use Rattle.profiles.specs.Profiles.{profileOk, settles}
@@ -13,7 +12,7 @@ use Rattle.sheet.specs.Record.{is, isOut, isEither, Record, withStanding, withT
 use Rattle.sheet.specs.Calls.{didOf}
 use Rattle.sheet.specs.declared.Sheet.{Sheet}
 use Rattle.sheet.specs.declared.Value.{Value}
-use Rattle.lists.specs.Lists.{FirstShortest}
+use Rattle.listing.specs.Listing.{Laid}
 use Rattle.sheet.specs.declared.Call.{Call}
 use Rattle.sheet.specs.declared.Call.the-variants.{Change, Receive, Withdraw}
 
@@ -68,10 +67,6 @@ sheetAfter s k = didOf mostMarks s k .sheet
 abbrev pub numberGiven : Sheet → Call → ℕ
 numberGiven s k = didOf mostMarks s k .number
 
--- the list of the record in a lent area: the number 0 with the length of the first shortest list, which stands at the front, and the bytes
--- behind it as they were
-pub record Given (r : Record) (area : List ℕ) (v : Value) (later : List ℕ) : Type 0 where
-  pub list : List ℕ
-  pub right : FirstShortest (r .marks) (inClass r) (notOut r) list
-  pub value : v ≡ record { number = 0; value = length list }
-  pub stands : later ≡ list ++ drop (length list) area
+-- the list of the record in a lent area: the number 0, and how many boxes the list has that is laid there
+abbrev pub Given : Record → List ℕ → Value → List ℕ → Type 0
+Given r area v later = (v .number ≡ 0) × Laid (r .marks) (inClass r) (notOut r) area (v .value) later

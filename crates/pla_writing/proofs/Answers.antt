@@ -15,8 +15,8 @@ use Rattle.sheet.specs.declared.Sheet.{Sheet}
 use Rattle.sheet.specs.declared.Value.{Value}
 use Rattle.sheet.proofs.Opening.{combinations-fit}
 use Rattle.sheet.proofs.Tests.{marks-most}
-use Rattle.listing.specs.Listing.{Listed}
-use Rattle.listing.proofs.Finds.{Finds, list-finds, count-is, count-inside, front-is}
+use Rattle.listing.specs.Listing.{Laid, Listed}
+use Rattle.listing.proofs.Laid.{class-small, list-laid, laid-few, laid-inside, laid-is}
 use Rattle.pla.specs.Writing.{plaText}
 use Rattle.pla.specs.Answers.{WritesPla, short, written}
 use Rattle.pla_writing.specs.Parts.{TextSize}
@@ -25,21 +25,21 @@ module _ {s : Sheet} {area later : List ℕ} {v : Value} (ready : ClassReady mos
   pub few-marks : s .marks ≤ mostMarks
   few-marks = marks-most mostMarks (s .marks) (ready .marks)
 
-  found : Finds (s .marks) (inClass (recordOf s)) (notOut (recordOf s)) area v later
-  found = list-finds listed ready (omega (arith, combinations-fit (s .marks) few-marks))
+  list : Laid (s .marks) (inClass (recordOf s)) (notOut (recordOf s)) area (v .value) later
+  list = list-laid listed ready (omega (arith, combinations-fit (s .marks) few-marks)) .1
 
   pub few-boxes : v .value ≤ 32
-  few-boxes = omega (arith, count-is found, found .few, combinations-fit (s .marks) few-marks)
+  few-boxes = omega (arith, laid-few list (class-small s), combinations-fit (s .marks) few-marks)
 
   pub boxes-inside : v .value ≤ length later
-  boxes-inside = count-inside found
+  boxes-inside = laid-inside list
 
   -- the list, as it stands in front of the area
   abbrev boxes : List ℕ
   boxes = take (v .value) later
 
   right : FirstShortest (s .marks) (inClass (recordOf s)) (notOut (recordOf s)) boxes
-  right = subst (FirstShortest (s .marks) (inClass (recordOf s)) (notOut (recordOf s))) (sym (front-is found)) (found .right)
+  right = subst (FirstShortest (s .marks) (inClass (recordOf s)) (notOut (recordOf s))) (sym (laid-is list)) (list .right)
 
   module _ {n : ℕ} (size : TextSize (s .marks) (v .value) n) where
     pub text-size : length (plaText (s .marks) boxes) ≡ n

@@ -7,8 +7,9 @@ use borrow.Author.Needs.{needs}
 use Rattle.sheet.specs.Limits.{entries}
 use Rattle.sheet.specs.Record.{Record}
 use Rattle.histories.specs.Histories.{Given}
+use Rattle.listing.proofs.Laid.{laid-inside}
 use Rattle.desk.specs.Parts.{OfRecord}
-use Rattle.desk.proofs.Results.{sheet-marks, given, count-inside, front-inside, lines-room, total-room, printed}
+use Rattle.desk.proofs.Results.{sheet-marks, given, front-inside, lines-room, total-room, printed}
 use Rattle.desk.proofs.page.result.Statement.{statement}
 use Rattle.desk.proofs.page.result.Tie as tie
 
@@ -20,12 +21,12 @@ list-given c of = given of (c .before .before .area .ensures) (c .list .ensures)
 array-share-prefix-area : tie.Need-array-share-prefix-area
 array-share-prefix-area c =
     let of = c .before .before .before .before .before .before .before .before .before .before .before .before .before .before .pre .0 .1 in
-    count-inside (of .good) (list-given (c .before .before .before .before .before .before .before .before) of)
+    laid-inside (list-given (c .before .before .before .before .before .before .before .before) of .1)
 
 slice-aggregate-put-lines-2 : tie.Need-slice-aggregate-put-lines-2
 slice-aggregate-put-lines-2 c =
     let of = c .before .before .before .before .before .before .before .before .before .before .before .before .before .before .before .pre .0 .1 in
-    sym (length-take-le _ _ (count-inside (of .good) (list-given (c .before .before .before .before .before .before .before .before .before) of)))
+    sym (length-take-le _ _ (laid-inside (list-given (c .before .before .before .before .before .before .before .before .before) of .1)))
 
 put-lines-requires : tie.Need-put-lines-requires
 put-lines-requires c κs =
