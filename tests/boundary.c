@@ -2469,6 +2469,38 @@ static void carrier_profiles(void)
     without_profile();
 }
 
+/* ---- a list always exists */
+
+/* The sheet gets a list that fits in an area of 2^m bytes, and 5 in one of a byte less. */
+static void has_list(const uint8_t *form, size_t n, uint64_t marks, long which)
+{
+    uint8_t list[VAULT_LIST_SIZE];
+    size_t room = VAULT_COMBINATIONS(marks);
+    struct vault_reply r = vault_list(form, n, list, room);
+    check(r.answer == VAULT_DONE && judged(verdict(form, n, list, (size_t)r.value), VAULT_DONE, 0, VAULT_FITS, 0), "every sheet has a list", which);
+    check(is(vault_list(form, n, list, room - 1), VAULT_ROOM, 0, 0), "which asks for room", which);
+}
+
+/* Every sheet of up to three marks; and, under every profile that at most eight combinations of its marks do not break, whatever of these is in. */
+static void always_a_list(void)
+{
+    uint8_t form[VAULT_FORM_SIZE];
+    for (uint64_t marks = 1; marks <= 3; marks++)
+        for (uint32_t class = 0; class < UINT32_C(1) << VAULT_COMBINATIONS(marks); class++)
+            for (uint32_t either = 0; either < UINT32_C(1) << VAULT_COMBINATIONS(marks); either++)
+                if ((class & either) == 0)
+                    has_list(form, drawn_with(form, marks, class, either), marks, (long)class);
+    for (size_t i = 0; i < profiles; i++) {
+        const struct profile *p = &every_profile[i];
+        uint32_t broken = breaking(p->marks, p->groups, p->n), others = UINT32_MAX >> (32 - VAULT_COMBINATIONS(p->marks)) & ~broken;
+        for (uint32_t class = others; __builtin_popcount(others) <= 8; class = (class - 1) & others) {
+            has_list(form, drawn_under(form, p, class, broken), p->marks, (long)i);
+            if (class == 0)
+                break;
+        }
+    }
+}
+
 /* Threads with the stack that the header names and some for the C library itself (or the least there is), each on its own areas. */
 static void *night(void *arg)
 {
@@ -2544,6 +2576,7 @@ int main(void)
     times();
     pla();
     carrier_profiles();
+    always_a_list();
     threads();
     printf("boundary: %d checks, %d failed\n", checks, faults);
     return faults != 0;

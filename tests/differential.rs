@@ -1177,5 +1177,8 @@ fn main() {
     if !child.wait().is_ok_and(|s| s.success()) {
         stop("the program ended badly");
     }
+    if [6, 11].iter().any(|&unused| counts.answers.iter().any(|answers| answers[unused] > 0)) {
+        stop("a call was answered by a number that no entry gives");
+    }
     counts.print(calls, seed);
 }
