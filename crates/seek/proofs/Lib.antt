@@ -1,4 +1,4 @@
 pub mod Bits
-pub mod Cost
+pub mod Spare
 pub mod Turn
 pub mod Settled

@@ -1,9 +1,9 @@
 -- What the steps of the search ask and tell each other. None of it is in what the search promises.
 use mathlib.Core.Bool.{Bool, true, false}
 use mathlib.Core.List.{List}
-use Prim.Native.Nat.{ℕ, _+_, _*_, _^_, _<_, _≤_}
+use Prim.Native.Nat.{ℕ, _+_, _^_, _<_, _≤_}
 use lib.ListN.{length, take}
-use Rattle.boxes.specs.Sums.{sum, sumOver, only}
+use Rattle.boxes.specs.Sums.{sumOver}
 use Rattle.sets.specs.Sets.{setMarks, has, valueAt, Sets, Singles}
 use Rattle.lists.specs.Lists.{Fits, AtLeast, FirstShortest}
 
@@ -28,16 +28,3 @@ pub record Stage (m : ℕ) (sets singles : List ℕ) (need room left : ℕ) : Ty
 pub record Node (m : ℕ) (sets singles costs : List ℕ) (need room left spare : ℕ) : Type 0 where
   pub stage : Stage m sets singles need room left
   pub most : Spare m costs (has need) (has room) left spare
-
--- the parts of a box that weights and costs are told in
-abbrev pub whole : ℕ
-whole = 65536
-
--- weights of p and q in all: a fitting list costs at most `whole` for each of its boxes, and q - p; and q is no large number
-pub record Certified (m : ℕ) (costs : List ℕ) (need room : ℕ → Bool) (p q : ℕ) : Type 0 where
-  pub cost : (l : List ℕ) → Fits m need room l → sumOver l (valueAt costs) + p ≤ length l * whole + q
-  pub small : q < 2 ^ 37
-
--- the weight of a set of combinations
-abbrev pub weight : (ℕ → Bool) → (ℕ → ℕ) → ℕ
-weight p f = sum (2 ^ setMarks) (λ c. only (p c) (f c))

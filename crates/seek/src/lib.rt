@@ -4,9 +4,10 @@ ghost use Prim.Native.Nat.{_+_, _*_, _-_, _^_, _≤_, _<_};
 ghost use lib.ListN.{length};
 ghost use Rattle.boxes.specs.Boxes.{through};
 ghost use Rattle.lists.specs.Lists.{lowestOf};
-ghost use Rattle.sets.specs.Sets.{setMarks, has, valueAt, Sets, Singles};
+ghost use Rattle.sets.specs.Sets.{setMarks, has, Singles};
 ghost use Rattle.seek.specs.Answer.{Askable, Sought};
-ghost use Rattle.seek.specs.Steps.{Reached, Stage, Node, Certified, weight};
+ghost use Rattle.costs.specs.Costs.{Certified};
+ghost use Rattle.seek.specs.Steps.{Reached, Stage, Node};
 
 // The box through the combination c with the free marks t.
 fn box_on(m: usize, singles: &[usize; 32], c: usize, t: usize) -> usize
@@ -93,90 +94,6 @@ fn try_boxes(
     false
 }
 
-// The parts of a box that weights are told in.
-const WHOLE: u64 = 65536;
-
-// What each box costs by weights, and what the weights make of the room: a list of k boxes has `k * WHOLE + minus - plus` to spare.
-struct Certificate {
-    costs: [u64; 243],
-    plus: u64,
-    minus: u64,
-}
-
-// The weight of a set of combinations.
-fn weight_of(s: u32, w: &[u32; 32]) -> u64
-    ensures { λ r. ⌜ (r ≡ weight (has s) (valueAt (now (w .entry)))) × (r < 2 ^ 37) ⌝ }
-{
-    let mut total: u64 = 0;
-    let mut c: usize = 0;
-    while c < 32 {
-        if (s >> c) % 2 == 1 {
-            total = total + ground::wide(w[c]);
-        }
-        c += 1;
-    }
-    total
-}
-
-// Weights of 0: each box costs the same.
-fn plain(m: usize, need: u32, room: u32) -> Certificate
-    requires { ⌜ m ≤ setMarks ⌝ }
-    ensures { λ r. ⌜ Certified m (r .costs) (has need) (has room) (r .plus) (r .minus) ⌝ }
-{
-    Certificate {
-        costs: [WHOLE; 243],
-        plus: 0,
-        minus: 0,
-    }
-}
-
-// What each box of the room costs by the weights, where none costs less than nothing; otherwise by weights of 0.
-fn certify(
-    m: usize,
-    sets: &[u32; 243],
-    need: u32,
-    room: u32,
-    plus: &[u32; 32],
-    minus: &[u32; 32],
-) -> Certificate
-    requires { ⌜ (m ≤ setMarks) × Sets m (now sets) ⌝ }
-    ensures { λ r. ⌜ Certified m (r .costs) (has need) (has room) (r .plus) (r .minus) ⌝ }
-{
-    let n = boxes::power3(m);
-    let mut costs = [0u64; 243];
-    let mut b: usize = 0;
-    while b < n {
-        let s = sets[b];
-        if s & room == s {
-            let p = weight_of(s & need, plus);
-            let q = weight_of(s, minus);
-            if WHOLE + q < p {
-                return plain(m, need, room);
-            }
-            costs[b] = WHOLE + q - p;
-        }
-        b += 1;
-    }
-    let all_plus = weight_of(room & need, plus);
-    let all_minus = weight_of(room, minus);
-    Certificate {
-        costs,
-        plus: all_plus,
-        minus: all_minus,
-    }
-}
-
-// By weights that are proposed, and checked here.
-fn weighed(m: usize, sets: &[u32; 243], singles: &[usize; 32], need: u32, room: u32) -> Certificate
-    requires { ⌜ (m ≤ setMarks) × Sets m (now sets) ⌝ }
-    ensures { λ r. ⌜ Certified m (r .costs) (has need) (has room) (r .plus) (r .minus) ⌝ }
-{
-    let w = weights::propose(sets, singles, need, room);
-    let plus = w.plus;
-    let minus = w.minus;
-    certify(m, sets, need, room, &plus, &minus)
-}
-
 // Lays k boxes, where no list has fewer.
 fn of_size(
     m: usize,
@@ -195,7 +112,7 @@ fn of_size(
     requires { ⌜ (k ≤ 2 ^ setMarks) × (k ≤ length (now area)) ⌝ }
     ensures { λ r. ⌜ Reached m (has need) (has room) k r (now (area .exit)) ⌝ }
 {
-    let all = k as u64 * WHOLE + minus;
+    let all = k as u64 * costs::WHOLE + minus;
     if all < plus {
         return false;
     }
@@ -209,7 +126,7 @@ pub fn shortest(m: usize, need: u32, room: u32, area: &mut [u8]) -> usize
 {
     let sets = sets::sets();
     let singles = sets::singles();
-    let known = weighed(m, &sets, &singles, need, room);
+    let known = costs::weighed(m, &sets, &singles, need, room);
     let costs = known.costs;
     let plus = known.plus;
     let minus = known.minus;

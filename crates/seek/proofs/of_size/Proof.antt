@@ -1,7 +1,7 @@
 -- By the certificate every list has more than k boxes, or the lists of k boxes cost no more than what is to spare.
 use borrow.Author.Needs.{needs}
 use Rattle.sets.specs.Sets.{has}
-use Rattle.seek.proofs.Cost.{too-few, to-spare}
+use Rattle.seek.proofs.Spare.{too-few, to-spare}
 use Rattle.seek.proofs.of_size.Statement.{statement}
 use Rattle.seek.proofs.of_size.Tie as tie
 

@@ -8,9 +8,9 @@ use borrow.Author.Tests.{eq-eqb, ne-eqb}
 use Rattle.boxes.specs.Sums.{sum}
 use Rattle.sets.specs.Sets.{has, valueAt}
 use Rattle.sets.proofs.Bits.{has-shr}
-use Rattle.seek.proofs.Cost.{given, weight-none, weight-in, weight-out}
-use Rattle.seek.proofs.weight_of.Statement.{statement}
-use Rattle.seek.proofs.weight_of.Tie as tie
+use Rattle.costs.proofs.Cost.{given, weight-none, weight-in, weight-out}
+use Rattle.costs.proofs.weight_of.Statement.{statement}
+use Rattle.costs.proofs.weight_of.Tie as tie
 
 abbrev Inv-loop : tie.InvT-loop
 Inv-loop s w total₀ c₀ total c = (c ≤ 32) × (total ≡ sum c (given (has s) (valueAt w))) × (total ≤ c * 4294967295)

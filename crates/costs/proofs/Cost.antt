@@ -3,8 +3,8 @@
 use mathlib.Core.Path.{_≡_, refl, sym, ap, _∙_}
 use mathlib.Core.Bool.{Bool, true, false}
 use mathlib.Core.List.{List, [], _∷_}
-use Prim.Native.Nat.{ℕ, _+_, _-_, _*_, _^_, _<_, _≤_, zero-le}
-use native.Mathlib.Nat.{zero-mul, suc-mul, mul-le-mul-right}
+use Prim.Native.Nat.{ℕ, _+_, _*_, _^_, _<_, _≤_, zero-le}
+use native.Mathlib.Nat.{zero-mul, suc-mul}
 use native.Mathlib.Numerals.{add-one}
 use native.Mathlib.Omega.{arith}
 use lib.Bits.{bitAnd}
@@ -16,14 +16,14 @@ use Rattle.boxes.specs.Boxes.{contains}
 use Rattle.ground.proofs.Cases.{if, clash, below-or}
 use Rattle.boxes.proofs.Numbers.{boxes-mono}
 use Rattle.boxes.proofs.Sums.{sum-ext, sum-add, sum-le, only-and}
-use Rattle.lists.specs.Lists.{covered, Fits, AtLeast}
+use Rattle.lists.specs.Lists.{covered, Fits}
 use Rattle.lists.specs.Pottosin.{Interval, Independent}
 use Rattle.lists.proofs.Count.{lines-upto}
 use Rattle.lists.proofs.Fit.{Inside}
 use Rattle.lists.proofs.Pottosin.{fits-independent}
 use Rattle.sets.specs.Sets.{setMarks, has, valueAt}
 use Rattle.sets.proofs.Bits.{has-and}
-use Rattle.seek.specs.Steps.{weight, whole, Certified, Spare}
+use Rattle.costs.specs.Costs.{weight, whole, Certified}
 
 -- what f gives where p holds
 abbrev pub given : (ℕ → Bool) → (ℕ → ℕ) → ℕ → ℕ
@@ -64,15 +64,6 @@ module _ (m : ℕ) (costs : List ℕ) (p q : ℕ → ℕ) (need room : ℕ → B
       lines-upto m (2 ^ setMarks) l q (f .apart),
       spread l f,
     )
-
--- ---- at the root: every list has more than k boxes, or so much is to spare
-module _ (m : ℕ) (costs : List ℕ) (need room : ℕ → Bool) (k p q : ℕ) (z : Certified m costs need room p q) where
-  pub too-few : k * whole + q < p → AtLeast m need room (k + 1)
-  too-few h l f = below-or k (length l) (λ g. omega arith)
-      (λ g. absurd (omega (arith, z .cost l f, mul-le-mul-right whole g, h)))
-
-  pub to-spare : p ≤ k * whole + q → Spare m costs need room k (k * whole + q - p)
-  to-spare h l f g = omega (arith, z .cost l f, mul-le-mul-right whole g, h)
 
 -- ---- a weight in rising combinations
 sum-step : (c : ℕ) (f : ℕ → ℕ) → sum (c + 1) f ≡ sum c f + f c

@@ -1,16 +1,16 @@
 -- The boxes of the room below b have their costs in the table.
 use mathlib.Core.Logic.{⊎-elim}
-use mathlib.Core.Path.{_≡_, refl, ap, _∙_}
+use mathlib.Core.Path.{_≡_, refl, sym, ap, _∙_}
 use Prim.Native.Nat.{_≤_, _-_, _^_, zero-le}
 use native.Mathlib.Omega.{arith}
 use lib.ListN.{length, length-set, getD}
 use borrow.Author.Needs.{needs}
 use Rattle.boxes.proofs.Numbers.{boxes-mono}
 use Rattle.sets.specs.Sets.{has, valueAt}
-use Rattle.seek.proofs.Bits.{inside-no}
-use Rattle.seek.proofs.Cost.{Priced, priced-skip, priced-set, priced-all}
-use Rattle.seek.proofs.certify.Statement.{statement}
-use Rattle.seek.proofs.certify.Tie as tie
+use Rattle.sets.proofs.Bits.{within-no}
+use Rattle.costs.proofs.Cost.{Priced, priced-skip, priced-set, priced-all}
+use Rattle.costs.proofs.certify.Statement.{statement}
+use Rattle.costs.proofs.certify.Tie as tie
 
 abbrev Inv-loop : tie.InvT-loop
 Inv-loop m sets need room plus minus n costs₀ b₀ costs b = (b ≤ n) × (n ≡ 3 ^ m) × (n ≤ 243) × (length costs ≡ 243) × Priced m (has need) (has room) (valueAt plus) (valueAt minus) costs b
@@ -44,7 +44,7 @@ loop-again c =
           (getD (s .args .sets .now) (l .b) 0) _ (row .1) (omega (arith, lt, l .inv .2, l .inv .3))
           (omega (arith, w .1 .ensures .0, w .2 .ensures .0, w .3 .left))))
           (λ w. rw (w .1) (priced-skip (s .args .m) (s .args .need) (s .args .room) (valueAt (s .args .plus .now)) (valueAt (s .args .minus .now)) (l .costs) (l .b) (l .inv .4)
-          (inside-no (s .args .m) (l .b) (getD (s .args .sets .now) (l .b) 0) (row .1) (s .args .room) (w .0 .left)))) (c .if1 .came),
+          (λ i. within-no _ _ (w .0 .left) (λ x t. i x (sym (row .1 x) ∙ t))))) (c .if1 .came),
     )
 
 returns-2 : tie.Need-returns-2 Inv-loop μ-loop
