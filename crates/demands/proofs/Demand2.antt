@@ -14,9 +14,10 @@ use Rattle.lists.proofs.Exist.{exists, at-most-half}
 use Rattle.lists.proofs.First.{unique}
 use Rattle.lists.proofs.Pottosin.{fits-independent, first-smallest}
 use Rattle.sheet.specs.Limits.{mostMarks}
-use Rattle.sheet.specs.Record.{isIn, isOut, isEither, Record, inClass, notOut, NoneEither}
-use Rattle.sheet.specs.declared.Standing.{Standing}
-use Rattle.sheet.specs.declared.Standing.the-variants.{In, Out, Either}
+use Rattle.classes.specs.Standings.{isIn, isOut, isEither}
+use Rattle.sheet.specs.Record.{Record, inClass, notOut, NoneEither}
+use Rattle.classes.specs.declared.Standing.{Standing}
+use Rattle.classes.specs.declared.Standing.the-variants.{In, Out, Either}
 use Rattle.sheet.proofs.Tests.{some-marks}
 use Rattle.sheet.proofs.Told.{in-not-out}
 use Rattle.sheet.specs.Sound.{ClassReady, recordOf}

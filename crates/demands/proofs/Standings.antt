@@ -13,13 +13,14 @@ use Rattle.tables.specs.Tables.{touched}
 use Rattle.profiles.specs.Profiles.{settles}
 use Rattle.profiles.specs.declared.Profile.the-variants.{None}
 use Rattle.sheet.specs.Limits.{mostMarks, entries, marksOk, amountOk}
-use Rattle.sheet.specs.Record.{is, isOut, isEither, outs, eithers, Record, NoneEither, outside-counts, either-counts, held-seconds, sheetOf}
-use Rattle.sheet.specs.Sound.{ownIn, tells, recordOf}
+use Rattle.classes.specs.Standings.{is, isOut, isEither, outs, eithers, tells}
+use Rattle.sheet.specs.Record.{Record, NoneEither, outside-counts, either-counts, held-seconds, sheetOf}
+use Rattle.sheet.specs.Sound.{ownIn, recordOf}
 use Rattle.sheet.specs.Calls.{fitsAmount, amountNo}
 use Rattle.sheet.specs.declared.Call.the-variants.{Change, Receive}
 use Rattle.sheet.specs.declared.Sheet.{Sheet}
-use Rattle.sheet.specs.declared.Standing.{Standing}
-use Rattle.sheet.specs.declared.Standing.the-variants.{In, Out, Either}
+use Rattle.classes.specs.declared.Standing.{Standing}
+use Rattle.classes.specs.declared.Standing.the-variants.{In, Out, Either}
 use Rattle.sheet.specs.declared.Value.{Value}
 use Rattle.sheet.proofs.Kept.{told-back}
 use Rattle.sheet.proofs.Tests.{change-own, amount-2, amount-4, amount-last, amount-0}

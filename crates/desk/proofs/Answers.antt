@@ -12,7 +12,8 @@ use Rattle.profiles.specs.Profiles.{settles}
 use Rattle.profiles.specs.declared.Profile.{Profile}
 use Rattle.profiles.specs.declared.Profile.the-variants.{None}
 use Rattle.sheet.specs.Limits.{mostMarks, mostHeld, marksOk, amountOk}
-use Rattle.sheet.specs.Record.{isIn, isOut, Record, NoneEither, opened}
+use Rattle.classes.specs.Standings.{isIn, isOut}
+use Rattle.sheet.specs.Record.{Record, NoneEither, opened}
 use Rattle.sheet.specs.declared.Call.{Call}
 use Rattle.histories.specs.Histories.{numberOf, accepted, after}
 use Rattle.machine.specs.Rows.{Row}

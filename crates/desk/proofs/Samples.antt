@@ -16,10 +16,10 @@ use Rattle.times.specs.Texts.{Readable}
 use Rattle.print.specs.Texts.{decimal, decimalIn, clock, pattern}
 use Rattle.clock.proofs.ReadsBack.{clock-readable}
 use Rattle.sheet.specs.Limits.{marksOk, amountOk}
-use Rattle.sheet.specs.Record.{isIn, isOut}
+use Rattle.classes.specs.Standings.{isIn, isOut}
 use Rattle.sheet.specs.declared.Call.the-variants.{Change, Receive, Withdraw}
-use Rattle.sheet.specs.declared.Standing.{Standing}
-use Rattle.sheet.specs.declared.Standing.the-variants.{In, Out}
+use Rattle.classes.specs.declared.Standing.{Standing}
+use Rattle.classes.specs.declared.Standing.the-variants.{In, Out}
 use Rattle.machine.specs.Rows.{whole, rowsFrom, judged}
 use Rattle.machine.specs.Machine.{Onward}
 use Rattle.times.specs.declared.Form.the-variants.{NoTime, Minutes}

@@ -25,6 +25,10 @@ decided-yes e p = record { yes = λ w. p; sure = λ w. e }
 pub decided-no : {P : Type 0} {t : Bool} → t ≡ false → (P → ⊥) → Decides t P
 decided-no e n = record { yes = λ w. clash w e; sure = λ p. absurd (n p) }
 
+-- the first test has passed, and the answer is the second's
+pub decided-both : {P Q : Type 0} {t u : Bool} → P → Decides u Q → t ≡ u → Decides t (P × Q)
+decided-both p d e = record { yes = λ y. (p, d .yes (sym e ∙ y)); sure = λ q. e ∙ d .sure (q .1) }
+
 -- a is below b, or b at most a
 pub below-or : {P : Type 0} (a b : ℕ) → (a < b → P) → (b ≤ a → P) → P
 below-or a b below above = if (ltb a b) (λ e. below (ltb-true a b e)) (λ e. above (ltb-false a b e))

@@ -14,11 +14,12 @@ use Rattle.boxes.proofs.Sums.{sum-ext}
 use Rattle.tables.specs.Tables.{entry}
 use Rattle.tables.proofs.Entries.{afresh-entry, afresh-own}
 use Rattle.sheet.specs.Limits.{mostMarks, entries}
-use Rattle.sheet.specs.Record.{isIn, isOut, Record, inClass, notOut, Table, outside-counts, either-counts, held-seconds, kept, quantity, sheetOf}
+use Rattle.classes.specs.Standings.{isIn, isOut}
+use Rattle.sheet.specs.Record.{Record, inClass, notOut, Table, outside-counts, either-counts, held-seconds, kept, quantity, sheetOf}
 use Rattle.sheet.specs.Sound.{ClassReady, Ready, recordOf, sizeOf}
 use Rattle.sheet.specs.Calls.{ClassSize}
-use Rattle.sheet.specs.declared.Standing.{Standing}
-use Rattle.sheet.specs.declared.Standing.the-variants.{In, Out, Either}
+use Rattle.classes.specs.declared.Standing.{Standing}
+use Rattle.classes.specs.declared.Standing.the-variants.{In, Out, Either}
 use Rattle.sheet.specs.declared.Value.{Value}
 use Rattle.sheet.proofs.Kept.{class-sound, standing-told, times-sound}
 use Rattle.sheet.proofs.Keeps.{class-of-ready}

@@ -12,7 +12,8 @@ use Rattle.tables.specs.Tables.{afresh, moved}
 use Rattle.tables.specs.Parts.{ShiftsAt}
 use Rattle.tables.proofs.Shifts.{stays-at, moved-afresh}
 use Rattle.sheet.specs.Limits.{mostMarks, entries, marksOk, amountOk}
-use Rattle.sheet.specs.Record.{outs, eithers, Record, Table, outside-counts, either-counts, held-seconds, quantity, sheetWith, sheetFrom, sheetOf}
+use Rattle.classes.specs.Standings.{outs, eithers}
+use Rattle.sheet.specs.Record.{Record, Table, outside-counts, either-counts, held-seconds, quantity, sheetWith, sheetFrom, sheetOf}
 use Rattle.sheet.specs.Calls.{answered, amountShift, moveOf, shiftIn, movedSheet, didOf}
 use Rattle.sheet.specs.declared.Call.{Call}
 use Rattle.sheet.specs.declared.Call.the-variants.{Change, Receive, Withdraw}

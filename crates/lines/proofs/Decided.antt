@@ -16,7 +16,7 @@ use Rattle.times.specs.Places.{ReadsAs}
 use Rattle.times.proofs.Decided.{time-decided}
 use Rattle.sheet.specs.declared.Call.{Call}
 use Rattle.sheet.specs.declared.Call.the-variants.{Change, Receive, Withdraw}
-use Rattle.sheet.specs.declared.Standing.the-variants.{In, Out}
+use Rattle.classes.specs.declared.Standing.the-variants.{In, Out}
 use Rattle.machine.specs.Rows.{Row, whole, spoiled}
 use Rattle.lines.specs.declared.Order.{Order}
 use Rattle.lines.specs.declared.Order.the-variants.{Make, End, Unreadable}

@@ -11,8 +11,9 @@ use Rattle.profiles.specs.Profiles.{breaks}
 use Rattle.profiles.specs.declared.Profile.{Profile}
 use Rattle.profiles.specs.declared.Profile.the-variants.{None}
 use Rattle.sheet.specs.Limits.{mostMarks, mostHeld}
-use Rattle.sheet.specs.Record.{isEither, Record, withStanding, withProfile, withTimes}
-use Rattle.sheet.specs.declared.Standing.the-variants as standing
+use Rattle.classes.specs.Standings.{isEither}
+use Rattle.sheet.specs.Record.{Record, withStanding, withProfile, withTimes}
+use Rattle.classes.specs.declared.Standing.the-variants as standing
 use Rattle.stored.specs.Sections.{Rest, standsIn, takes, heldIn}
 use Rattle.stored.specs.Fields.{numberIn, Next, due, count, group, perhaps, complete, end, restDue, entriesDue, groupsDue, Outcome, refused, Run}
 use Rattle.stored.specs.declared.Section.{Section}

@@ -19,11 +19,12 @@ use Rattle.sheet.specs.declared.Call.{Call}
 use Rattle.sheet.specs.declared.Call.the-variants.{Change, Receive, Withdraw}
 use Rattle.sheet.specs.declared.Move.{Move}
 use Rattle.sheet.specs.declared.Sheet.{Sheet}
-use Rattle.sheet.specs.declared.Standing.{Standing}
-use Rattle.sheet.specs.declared.Standing.the-variants.{Either}
+use Rattle.classes.specs.declared.Standing.{Standing}
+use Rattle.classes.specs.declared.Standing.the-variants.{Either}
 use Rattle.sheet.specs.Limits.{mostMarks, entries, marksOk, amountOk, mostHeld}
-use Rattle.sheet.specs.Record.{isEither, outs, eithers, Table, outside-counts, either-counts, held-seconds, kept, sheetWith}
-use Rattle.sheet.specs.Sound.{ownIn, tells}
+use Rattle.classes.specs.Standings.{isEither, outs, eithers, tells}
+use Rattle.sheet.specs.Record.{Table, outside-counts, either-counts, held-seconds, kept, sheetWith}
+use Rattle.sheet.specs.Sound.{ownIn}
 use Rattle.sheet.specs.Calls.{answered, between, changeMove, fitsCount, fitsAmount, changeNo, amountNo, moveOf, shiftIn, movedSheet, numberOn, didOf}
 use Rattle.sheet.specs.Promises.{Long, Agree, Alike, AboveKept}
 use Rattle.sheet.proofs.Alters.{by-answer, table-moved}

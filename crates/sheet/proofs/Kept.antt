@@ -14,10 +14,12 @@ use Rattle.tables.proofs.Entries.{afresh-own, afresh-sums, afresh-entry}
 use Rattle.sheet.specs.Limits.{mostHeld}
 use Rattle.profiles.specs.Profiles.{profileOk}
 use Rattle.profiles.specs.declared.Profile.{Profile}
-use Rattle.sheet.specs.Record.{is, isEither, outs, eithers, Record, Obeys, openedUnder, quantity, outside-counts, either-counts, sheetOf}
-use Rattle.sheet.specs.Sound.{tells, toldBy, CountsSound, ClassSound, TimesSound}
-use Rattle.sheet.specs.declared.Standing.{Standing}
-use Rattle.sheet.specs.declared.Standing.the-variants.{In, Out, Either}
+use Rattle.classes.specs.Standings.{is, isEither, outs, eithers, tells, toldBy}
+use Rattle.sheet.specs.Record.{Record, Obeys, openedUnder, quantity, outside-counts, either-counts, sheetOf}
+use Rattle.classes.specs.Sound.{CountsSound, ClassSound}
+use Rattle.sheet.specs.Sound.{TimesSound}
+use Rattle.classes.specs.declared.Standing.{Standing}
+use Rattle.classes.specs.declared.Standing.the-variants.{In, Out, Either}
 
 -- what a combination of a standing adds tells the standing
 

@@ -13,9 +13,11 @@ use Rattle.tables.specs.Tables.{entry, own, Sums}
 use Rattle.profiles.specs.Profiles.{profileOk, breaks}
 use Rattle.profiles.specs.declared.Profile.{Profile}
 use Rattle.sheet.specs.Limits.{marksOk}
-use Rattle.sheet.specs.Sound.{tells, CountsSound, ClassSound, ClassReady}
+use Rattle.classes.specs.Standings.{tells}
+use Rattle.classes.specs.Sound.{CountsSound, ClassSound}
+use Rattle.sheet.specs.Sound.{ClassReady}
 use Rattle.sheet.specs.declared.Sheet.{Sheet}
-use Rattle.sheet.specs.declared.Standing.the-variants.{Either}
+use Rattle.classes.specs.declared.Standing.the-variants.{Either}
 
 -- one test implies another
 

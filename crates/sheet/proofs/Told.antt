@@ -7,11 +7,13 @@ use native.Mathlib.Omega.{arith}
 use lib.Dec.{eqb, ltb}
 use borrow.Author.Tests.{ltb-true, eqb-true, eqb-false, not-true}
 use Rattle.ground.proofs.Cases.{and-left, and-right}
-use Rattle.sheet.specs.Record.{Record, isIn, isOut, isEither, inClass, notOut, outside-counts, either-counts}
-use Rattle.sheet.specs.Sound.{ownIn, CountsSound, TimesSound, recordOf}
+use Rattle.classes.specs.Standings.{isIn, isOut, isEither}
+use Rattle.sheet.specs.Record.{Record, inClass, notOut, outside-counts, either-counts}
+use Rattle.classes.specs.Sound.{CountsSound}
+use Rattle.sheet.specs.Sound.{ownIn, TimesSound, recordOf}
 use Rattle.sheet.specs.declared.Sheet.{Sheet}
-use Rattle.sheet.specs.declared.Standing.{Standing}
-use Rattle.sheet.specs.declared.Standing.the-variants.{In, Out, Either}
+use Rattle.classes.specs.declared.Standing.{Standing}
+use Rattle.classes.specs.declared.Standing.the-variants.{In, Out, Either}
 
 -- of any record: what a list must cover it may cover
 

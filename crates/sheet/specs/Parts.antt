@@ -27,11 +27,6 @@ SmallAmount (Withdraw c d) = d < 2 ^ 32
 abbrev pub mostKept : ℕ
 mostKept = 4294967295
 
--- a table of a sheet over m marks
-pub record TableOver (m : ℕ) (t : List ℕ) : Type 0 where
-  pub marks : m ≤ mostMarks
-  pub long : entries ≤ length t
-
 -- an accepted move: its combination is one of the sheet, each table has room for its shift, and each shift is one
 pub record Accepted (s : Sheet) (v : Move) : Type 0 where
   pub marks : marksOk mostMarks (s .marks) ≡ true

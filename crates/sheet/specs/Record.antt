@@ -11,43 +11,9 @@ use Rattle.profiles.specs.Profiles.{breaks}
 use Rattle.profiles.specs.declared.Profile.{Profile}
 use Rattle.profiles.specs.declared.Profile.the-variants.{None}
 use Rattle.sheet.specs.declared.Sheet.{Sheet}
-use Rattle.sheet.specs.declared.Standing.{Standing}
-use Rattle.sheet.specs.declared.Standing.the-variants.{In, Out, Either}
-
--- a combination stands in, out or either
-
-abbrev pub isIn : Standing → Bool
-isIn In = true
-isIn Out = false
-isIn Either = false
-
-abbrev pub isOut : Standing → Bool
-isOut In = false
-isOut Out = true
-isOut Either = false
-
-abbrev pub isEither : Standing → Bool
-isEither In = false
-isEither Out = false
-isEither Either = true
-
--- the same standing
-abbrev pub is : Standing → Standing → Bool
-is In = isIn
-is Out = isOut
-is Either = isEither
-
--- what a combination adds to the outside counts, and to the either counts: in 0 and 0, out 1 and 0, either 0 and 1
-
-abbrev pub outs : Standing → ℕ
-outs In = 0
-outs Out = 1
-outs Either = 0
-
-abbrev pub eithers : Standing → ℕ
-eithers In = 0
-eithers Out = 0
-eithers Either = 1
+use Rattle.classes.specs.Standings.{isIn, isOut, isEither, outs, eithers}
+use Rattle.classes.specs.declared.Standing.{Standing}
+use Rattle.classes.specs.declared.Standing.the-variants.{Out, Either}
 
 pub record Record : Type 0 where
   pub marks : ℕ

@@ -12,13 +12,14 @@ ghost use Rattle.sheet.specs.Calls.{refusedOpening, openOf, openUnderOf,
 ghost use Rattle.sheet.specs.Parts.{Accepted, Addable};
 ghost use Rattle.sheet.specs.Sound.{ClassReady, Ready, recordOf, sizeOf};
 ghost use Rattle.sheet.specs.declared.Call.the-variants.{Change, Receive, Withdraw};
-ghost use Rattle.sheet.specs.declared.Standing.the-variants.{In, Out, Either};
+ghost use Rattle.classes.specs.declared.Standing.the-variants.{In, Out, Either};
 
 mod moves;
 mod numbers;
 mod soundness;
 
 use boxes;
+use classes::Standing;
 pub use numbers::marks_ok;
 use profiles::Profile;
 use tables;
@@ -30,13 +31,6 @@ pub struct Sheet {
     pub outside: [u32; Sheet::ENTRIES],
     pub either: [u32; Sheet::ENTRIES],
     pub held: [u32; Sheet::ENTRIES],
-}
-
-// How a combination stands to the class. Lines must contain those that are in, may not contain those that are out, and may contain those that are either.
-pub enum Standing {
-    In,
-    Out,
-    Either,
 }
 
 // A call that changes a sheet, with any numbers.
@@ -162,8 +156,8 @@ impl Sheet {
         let mut eithers = [0u32; 32];
         for c in 0..n {
             let to = opened_as(m, profile, c);
-            outs[c] = moves::outs(to);
-            eithers[c] = moves::eithers(to);
+            outs[c] = classes::outs(to);
+            eithers[c] = classes::eithers(to);
         }
         let none = [0u32; 32];
         Sheet::afresh(m, profile, &outs, &eithers, &none)
@@ -276,7 +270,7 @@ impl Sheet {
         let outside = self.outside;
         let either = self.either;
         let profile = self.profile;
-        numbers::marks_ok(m) && soundness::class_sound(m, profile, &outside, &either)
+        numbers::marks_ok(m) && classes::class_sound(m, profile, &outside, &either)
     }
 
     // Whether a call that reads the class and the times can be answered.

@@ -5,35 +5,14 @@ ghost use mathlib.Core.List.{List};
 ghost use lib.ListN.{length};
 ghost use Rattle.profiles.specs.declared.Profile.{Profile};
 ghost use Rattle.sheet.specs.Limits.{mostMarks, entries};
-ghost use Rattle.sheet.specs.Record.{outs, eithers, sheetWith};
+ghost use Rattle.classes.specs.Standings.{outs, eithers};
+ghost use Rattle.sheet.specs.Record.{sheetWith};
 ghost use Rattle.sheet.specs.Calls.{between, amountShift, changeMove, amountMove, moveOf};
 ghost use Rattle.sheet.specs.Parts.{SmallAmount};
 use crate::Call;
 use crate::Move;
-use crate::Standing;
+use classes::Standing;
 use tables::Shift;
-
-// What a combination of a standing adds to the outside counts.
-pub fn outs(s: Standing) -> u32
-    ensures { λ r. ⌜ r ≡ outs s ⌝ }
-{
-    match s {
-        Standing::In => 0,
-        Standing::Out => 1,
-        Standing::Either => 0,
-    }
-}
-
-// What it adds to the either counts.
-pub fn eithers(s: Standing) -> u32
-    ensures { λ r. ⌜ r ≡ eithers s ⌝ }
-{
-    match s {
-        Standing::In => 0,
-        Standing::Out => 0,
-        Standing::Either => 1,
-    }
-}
 
 // A kept number, from x to y.
 pub fn between(x: u32, y: u32) -> Shift
@@ -65,8 +44,8 @@ fn change_move(o: u32, e: u32, to: Standing, c: usize) -> Move
 {
     Move {
         at: c,
-        outside: between(o, outs(to)),
-        either: between(e, eithers(to)),
+        outside: between(o, classes::outs(to)),
+        either: between(e, classes::eithers(to)),
         held: Shift::Stays,
     }
 }

@@ -8,14 +8,14 @@ ghost use lib.ListN.{length};
 ghost use Rattle.profiles.specs.declared.Profile.{Profile};
 ghost use Rattle.sheet.specs.Limits.{mostMarks, entries, mostHeld, marksOk, amountOk};
 ghost use Rattle.sheet.specs.Parts.{mostKept};
-ghost use Rattle.sheet.specs.Sound.{tells};
+ghost use Rattle.classes.specs.Standings.{tells, isEither};
 ghost use Rattle.sheet.specs.Calls.{countsFit, changeNo, amountNo, numberOn};
-ghost use Rattle.sheet.specs.Record.{isEither, sheetWith};
-ghost use Rattle.sheet.specs.declared.Standing.the-variants.{Either};
+ghost use Rattle.sheet.specs.Record.{sheetWith};
+ghost use Rattle.classes.specs.declared.Standing.the-variants.{Either};
 use crate::Call;
 use crate::Sheet;
-use crate::Standing;
 use crate::moves;
+use classes::Standing;
 use profiles::Profile;
 
 // Whether a sheet may have m marks.
@@ -30,13 +30,6 @@ fn amount_ok(d: u64) -> bool
     ensures { λ r. ⌜ r ≡ amountOk d ⌝ }
 {
     1 <= d && d <= Sheet::MOST_AMOUNT
-}
-
-// Whether own counts o and e are those of a standing.
-pub fn tells(s: Standing, o: u32, e: u32) -> bool
-    ensures { λ r. ⌜ r ≡ tells s o e ⌝ }
-{
-    o == moves::outs(s) && e == moves::eithers(s)
 }
 
 // Whether a combination that holds so many seconds must not come to stand so: an either combination holds nothing.
@@ -54,7 +47,7 @@ fn holds_back(to: Standing, seconds: u32) -> bool
 fn to_either(more: bool, o: u32, e: u32) -> bool
     ensures { λ r. ⌜ r ≡ (more && tells Either o e) ⌝ }
 {
-    more && tells(Standing::Either, o, e)
+    more && classes::tells(Standing::Either, o, e)
 }
 
 // Whether both counts of each touched box fit after a change to a standing, from own counts o and e.
@@ -63,8 +56,8 @@ fn counts_fit(m: usize, c: usize, to: Standing, outside: &[u32], either: &[u32])
     ensures { λ r. ⌜ ((p : Profile) (held : List ℕ) → r ≡ countsFit to (sheetWith m p (now (outside .entry)) (now (either .entry)) held) c) ⌝ }
 {
     let b = boxes::single(m, c);
-    let out = moves::between(outside[b], moves::outs(to));
-    let other = moves::between(either[b], moves::eithers(to));
+    let out = moves::between(outside[b], classes::outs(to));
+    let other = moves::between(either[b], classes::eithers(to));
     tables::fits_at(m, c, out, outside, 0, 1) && tables::fits_at(m, c, other, either, 0, 1)
 }
 
@@ -96,7 +89,7 @@ fn change_number(
     if 1 < ground::wide(o) + ground::wide(e) {
         return 7;
     }
-    if tells(to, o, e) {
+    if classes::tells(to, o, e) {
         return 3;
     }
     if holds_back(to, held[b]) {

@@ -8,8 +8,8 @@ use lib.Dec.{eqb, ltb}
 use Rattle.boxes.specs.Sums.{sum}
 use Rattle.ground.proofs.Cases.{clash}
 use Rattle.sheet.specs.Limits.{mostMarks, entries, marksOk}
-use Rattle.sheet.specs.Record.{isEither}
-use Rattle.sheet.specs.declared.Standing.the-variants.{In, Out}
+use Rattle.classes.specs.Standings.{isEither}
+use Rattle.classes.specs.declared.Standing.the-variants.{In, Out}
 use Rattle.stored.specs.declared.Read.{Read}
 use Rattle.stored.specs.Fields.{good}
 use Rattle.stored.specs.Answers.{readOf, Reads}

@@ -10,8 +10,9 @@ use borrow.Author.Tests.{leb-true, ltb-false, lt-ltb, not-true}
 use Rattle.boxes.proofs.Sums.{sum-change}
 use Rattle.ground.proofs.Cases.{clash, same-or, and-left, and-right}
 use Rattle.sheet.specs.Limits.{mostHeld}
-use Rattle.sheet.specs.Record.{isIn, isEither, Record, updated, opened}
-use Rattle.sheet.specs.declared.Standing.the-variants as standing
+use Rattle.classes.specs.Standings.{isIn, isEither}
+use Rattle.sheet.specs.Record.{Record, updated, opened}
+use Rattle.classes.specs.declared.Standing.the-variants as standing
 use Rattle.stored.specs.Sections.{Rest, nothing, profile, more, sections, bytesBehind, standsIn, numberBehind, takes, heldIn, mayStand, added}
 use Rattle.stored.specs.Form.{bytes, entryOf}
 use Rattle.stored.specs.declared.Layout.{Layout}

@@ -10,8 +10,8 @@ use borrow.Author.Needs.{needs}
 use Rattle.tables.specs.Tables.{entry, own}
 use Rattle.profiles.specs.Profiles.{settles}
 use Rattle.sheet.specs.Limits.{marksOk, mostMarks}
-use Rattle.sheet.specs.Record.{isEither, sheetWith}
-use Rattle.sheet.specs.Sound.{tells}
+use Rattle.classes.specs.Standings.{isEither, tells}
+use Rattle.sheet.specs.Record.{sheetWith}
 use Rattle.sheet.specs.Calls.{countsFit}
 use Rattle.sheet.specs.declared.Sheet.{Sheet}
 use Rattle.sheet.proofs.Tests.{marks-most, boxes-fit, change-7, change-2, change-settled, change-own, change-3, change-12, change-count, change-0}

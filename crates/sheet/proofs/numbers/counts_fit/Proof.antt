@@ -9,7 +9,7 @@ use Rattle.tables.specs.declared.Shift.{Shift}
 use Rattle.tables.specs.Tables.{entry, own, touched}
 use Rattle.tables.specs.Parts.{Over, fitsMoved}
 use Rattle.tables.proofs.Touched.{touched-ext}
-use Rattle.sheet.specs.Record.{outs, eithers}
+use Rattle.classes.specs.Standings.{outs, eithers}
 use Rattle.sheet.specs.Calls.{between, fitsCount}
 use Rattle.sheet.proofs.Tests.{count-bounds}
 use Rattle.sheet.proofs.Reading.{boxes-within}

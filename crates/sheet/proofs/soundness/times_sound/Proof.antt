@@ -7,12 +7,11 @@ use native.Mathlib.Nat.{one-le-pow}
 use borrow.Author.Needs.{needs}
 use borrow.Author.Tests.{lt-leb}
 use Rattle.ground.specs.Decides.{Decides}
-use Rattle.ground.proofs.Cases.{decided-no, denied}
+use Rattle.ground.proofs.Cases.{decided-no, decided-both, denied}
 use Rattle.boxes.specs.Boxes.{allFree}
 use Rattle.tables.specs.Tables.{entry}
 use Rattle.sheet.specs.Limits.{mostHeld}
-use Rattle.sheet.specs.Sound.{Apart}
-use Rattle.sheet.proofs.Reading.{over-boxes, decided-both}
+use Rattle.classes.specs.Sound.{Apart}
 use Rattle.sheet.proofs.soundness.times_sound.Statement.{statement}
 use Rattle.sheet.proofs.soundness.times_sound.Tie as tie
 
@@ -22,10 +21,10 @@ sub-b c = omega (arith, c .power3 .ensures .0, one-le-pow (c .before .before .be
 shared-slice-read-if1 : tie.Need-shared-slice-read-if1
 shared-slice-read-if1 c =
     let s = c .before .before .before .before .before in
-    omega (arith, c .before .power3 .ensures .0, over-boxes (s .pre .2), one-le-pow (s .args .m) 3 (omega arith))
+    omega (arith, c .before .power3 .ensures .0, s .pre .2 .long, one-le-pow (s .args .m) 3 (omega arith))
 
 sums-requires : tie.Need-sums-requires
-sums-requires c κs = (omega arith, over-boxes (c .before .before .before .before .before .before .before .pre .2))
+sums-requires c κs = (omega arith, c .before .before .before .before .before .before .before .pre .2 .long)
 
 all : (c : tie.After-power3) → let a = c .before .before .before .before .args in entry (a .held .now) (c .power3 .result - 1) ≡ entry (a .held .now) (allFree (a .m))
 all c = ap (λ (n : ℕ). entry (c .before .before .before .before .args .held .now) (n - 1)) (c .power3 .ensures .0)

@@ -6,9 +6,8 @@ use borrow.Author.Needs.{needs}
 use borrow.Author.Count.{below-more}
 use Rattle.tables.specs.Tables.{entry, own}
 use Rattle.ground.proofs.Cases.{decided-yes, decided-no}
-use Rattle.sheet.proofs.Reading.{over-boxes}
-use Rattle.sheet.proofs.soundness.each_tells.Statement.{statement}
-use Rattle.sheet.proofs.soundness.each_tells.Tie as tie
+use Rattle.classes.proofs.each_tells.Statement.{statement}
+use Rattle.classes.proofs.each_tells.Tie as tie
 
 abbrev Inv-loop : tie.InvT-loop
 Inv-loop m outside either n c₀ c = (c ≤ n) × (n ≡ 2 ^ m) × ((k : ℕ) → k < c → own m outside k + own m either k ≤ 1)
@@ -29,15 +28,15 @@ loop-holds : tie.Need-loop-holds Inv-loop μ-loop
 loop-holds c = (omega arith, c .power2 .ensures .0, λ k l. absurd (omega arith))
 
 mul-wide : tie.Need-mul-wide Inv-loop μ-loop
-mul-wide c = omega (arith, c .single .ensures .1, over-boxes (c .before .before .before .before .before .before .pre .0))
+mul-wide c = omega (arith, c .single .ensures .1, c .before .before .before .before .before .before .pre .0 .long)
 
 shared-slice-read-wide : tie.Need-shared-slice-read-wide Inv-loop μ-loop
-shared-slice-read-wide c = omega (arith, c .before .single .ensures .1, over-boxes (c .before .before .before .before .before .before .before .pre .0))
+shared-slice-read-wide c = omega (arith, c .before .single .ensures .1, c .before .before .before .before .before .before .before .pre .0 .long)
 
 shared-slice-read-wide-2 : tie.Need-shared-slice-read-wide-2 Inv-loop μ-loop
 shared-slice-read-wide-2 c =
     let l = c .before .before .before in
-    omega (arith, l .single .ensures .1, over-boxes (l .before .before .before .before .before .before .pre .1))
+    omega (arith, l .single .ensures .1, l .before .before .before .before .before .before .pre .1 .long)
 
 returns : tie.Need-returns Inv-loop μ-loop
 returns c = decided-no refl (λ h. omega (arith, here (c .before), h (c .before .before .before .before .before .before .before .loop .c) (omega arith)))

@@ -7,15 +7,15 @@ use borrow.Author.Needs.{needs}
 use Rattle.ground.specs.Decides.{Decides}
 use Rattle.ground.proofs.Cases.{decided-no, denied}
 use Rattle.tables.specs.Tables.{entry, own, Sums}
-use Rattle.sheet.proofs.Reading.{over-boxes, decided-both}
-use Rattle.sheet.proofs.soundness.counts_sound.Statement.{statement}
-use Rattle.sheet.proofs.soundness.counts_sound.Tie as tie
+use Rattle.ground.proofs.Cases.{decided-both}
+use Rattle.classes.proofs.counts_sound.Statement.{statement}
+use Rattle.classes.proofs.counts_sound.Tie as tie
 
 sums-requires : tie.Need-sums-requires
-sums-requires c κs = (omega arith, over-boxes (c .before .before .before .before .pre .0))
+sums-requires c κs = (omega arith, c .before .before .before .before .pre .0 .long)
 
 sums-requires-2 : tie.Need-sums-requires-2
-sums-requires-2 c κs = (omega arith, over-boxes (c .before .before .before .before .before .pre .1))
+sums-requires-2 c κs = (omega arith, c .before .before .before .before .before .pre .1 .long)
 
 outsides : (c : tie.Joined1)
     → let a = c .before .before .before .before .args in

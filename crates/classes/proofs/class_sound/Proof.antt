@@ -7,10 +7,10 @@ use borrow.Author.Needs.{needs}
 use Rattle.ground.specs.Decides.{Decides}
 use Rattle.ground.proofs.Cases.{decided-no, denied}
 use Rattle.profiles.specs.Profiles.{profileOk}
-use Rattle.sheet.specs.Sound.{CountsSound}
-use Rattle.sheet.proofs.Reading.{decided-both}
-use Rattle.sheet.proofs.soundness.class_sound.Statement.{statement}
-use Rattle.sheet.proofs.soundness.class_sound.Tie as tie
+use Rattle.classes.specs.Sound.{CountsSound}
+use Rattle.ground.proofs.Cases.{decided-both}
+use Rattle.classes.proofs.class_sound.Statement.{statement}
+use Rattle.classes.proofs.class_sound.Tie as tie
 
 ok-requires : tie.Need-ok-requires
 ok-requires c κs = omega (arith, c .before .before .before .before .pre .0 .marks)

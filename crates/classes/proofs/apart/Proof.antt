@@ -8,11 +8,10 @@ use borrow.Author.Needs.{needs}
 use borrow.Author.Count.{below-more}
 use Rattle.ground.proofs.Cases.{clash, decided-yes, decided-no}
 use Rattle.tables.specs.Tables.{entry, own}
-use Rattle.sheet.specs.Sound.{tells}
-use Rattle.sheet.specs.declared.Standing.the-variants.{Either}
-use Rattle.sheet.proofs.Reading.{over-boxes}
-use Rattle.sheet.proofs.soundness.apart.Statement.{statement}
-use Rattle.sheet.proofs.soundness.apart.Tie as tie
+use Rattle.classes.specs.Standings.{tells}
+use Rattle.classes.specs.declared.Standing.the-variants.{Either}
+use Rattle.classes.proofs.apart.Statement.{statement}
+use Rattle.classes.proofs.apart.Tie as tie
 
 abbrev Inv-loop : tie.InvT-loop
 Inv-loop m outside either held n c₀ c = (c ≤ n) × (n ≡ 2 ^ m) × ((k : ℕ) → k < c → tells Either (own m outside k) (own m either k) ≡ true → own m held k ≡ 0)
@@ -37,20 +36,20 @@ loop-holds : tie.Need-loop-holds Inv-loop μ-loop
 loop-holds c = (omega arith, c .power2 .ensures .0, λ k l. absurd (omega arith))
 
 mul-if1 : tie.Need-mul-if1 Inv-loop μ-loop
-mul-if1 c = omega (arith, c .single .ensures .1, over-boxes (c .before .before .before .before .before .before .before .pre .0))
+mul-if1 c = omega (arith, c .single .ensures .1, c .before .before .before .before .before .before .before .pre .0 .long)
 
 shared-slice-read-if1 : tie.Need-shared-slice-read-if1 Inv-loop μ-loop
-shared-slice-read-if1 c = omega (arith, c .before .single .ensures .1, over-boxes (c .before .before .before .before .before .before .before .before .pre .2))
+shared-slice-read-if1 c = omega (arith, c .before .single .ensures .1, c .before .before .before .before .before .before .before .before .pre .2 .long)
 
 shared-slice-read-tells : tie.Need-shared-slice-read-tells Inv-loop μ-loop
 shared-slice-read-tells c =
     let l = c .before .before .before in
-    omega (arith, l .single .ensures .1, over-boxes (l .before .before .before .before .before .before .before .pre .0))
+    omega (arith, l .single .ensures .1, l .before .before .before .before .before .before .before .pre .0 .long)
 
 shared-slice-read-tells-2 : tie.Need-shared-slice-read-tells-2 Inv-loop μ-loop
 shared-slice-read-tells-2 c =
     let l = c .before .before .before .before in
-    omega (arith, l .single .ensures .1, over-boxes (l .before .before .before .before .before .before .before .pre .1))
+    omega (arith, l .single .ensures .1, l .before .before .before .before .before .before .before .pre .1 .long)
 
 returns : tie.Need-returns Inv-loop μ-loop
 returns c =

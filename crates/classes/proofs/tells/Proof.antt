@@ -3,9 +3,9 @@ use mathlib.Core.Path.{sym, _∙_}
 use native.Mathlib.Omega.{arith}
 use borrow.Author.Needs.{needs}
 use borrow.Author.Tests.{eq-eqb, ne-eqb}
-use Rattle.sheet.specs.Record.{outs}
-use Rattle.sheet.proofs.numbers.tells.Statement.{statement}
-use Rattle.sheet.proofs.numbers.tells.Tie as tie
+use Rattle.classes.specs.Standings.{outs}
+use Rattle.classes.proofs.tells.Statement.{statement}
+use Rattle.classes.proofs.tells.Tie as tie
 
 returns : tie.Need-returns
 returns c = let a = c .before .before .before .args in rw (eq-eqb (a .o) (outs (a .s)) (omega arith), c .eithers .ensures)

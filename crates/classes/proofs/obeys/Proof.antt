@@ -10,11 +10,10 @@ use borrow.Author.Tests.{not-true, not-false}
 use Rattle.ground.proofs.Cases.{clash, decided-yes, decided-no}
 use Rattle.tables.specs.Tables.{entry, own}
 use Rattle.profiles.specs.Profiles.{breaks}
-use Rattle.sheet.specs.Sound.{tells}
-use Rattle.sheet.specs.declared.Standing.the-variants.{Either}
-use Rattle.sheet.proofs.Reading.{over-boxes}
-use Rattle.sheet.proofs.soundness.obeys.Statement.{statement}
-use Rattle.sheet.proofs.soundness.obeys.Tie as tie
+use Rattle.classes.specs.Standings.{tells}
+use Rattle.classes.specs.declared.Standing.the-variants.{Either}
+use Rattle.classes.proofs.obeys.Statement.{statement}
+use Rattle.classes.proofs.obeys.Tie as tie
 
 abbrev Inv-loop : tie.InvT-loop
 Inv-loop m profile outside either n c₀ c = (c ≤ n) × (n ≡ 2 ^ m) × ((k : ℕ) → k < c → breaks m profile k ≡ true → tells Either (own m outside k) (own m either k) ≡ true)
@@ -37,17 +36,17 @@ loop-holds c = (omega arith, c .power2 .ensures .0, λ k l. absurd (omega arith)
 mul-tells : tie.Need-mul-tells Inv-loop μ-loop
 mul-tells c =
     let l = c .before .before in
-    omega (arith, l .single .ensures .1, over-boxes (l .before .before .before .before .before .before .pre .0))
+    omega (arith, l .single .ensures .1, l .before .before .before .before .before .before .pre .0 .long)
 
 shared-slice-read-tells : tie.Need-shared-slice-read-tells Inv-loop μ-loop
 shared-slice-read-tells c =
     let l = c .before .before .before in
-    omega (arith, l .single .ensures .1, over-boxes (l .before .before .before .before .before .before .pre .0))
+    omega (arith, l .single .ensures .1, l .before .before .before .before .before .before .pre .0 .long)
 
 shared-slice-read-tells-2 : tie.Need-shared-slice-read-tells-2 Inv-loop μ-loop
 shared-slice-read-tells-2 c =
     let l = c .before .before .before .before in
-    omega (arith, l .single .ensures .1, over-boxes (l .before .before .before .before .before .before .pre .1))
+    omega (arith, l .single .ensures .1, l .before .before .before .before .before .before .pre .1 .long)
 
 returns : tie.Need-returns Inv-loop μ-loop
 returns c =
