@@ -1,7 +1,7 @@
 -- What the contract of `list` says of the list it gives, and what follows of every first shortest list.
 use Prim.Native.Nat.{ℕ, suc, _-_, _^_, _≤_}
 use mathlib.Core.Path.{_≡_, refl, sym, _∙_, ap, subst, transport, fun-ext}
-use mathlib.Core.Bool.{Bool, true, false, not}
+use mathlib.Core.Bool.{Bool, false, not}
 use mathlib.Core.List.{List}
 use native.Mathlib.Omega.{arith}
 use lib.ListN.{length}

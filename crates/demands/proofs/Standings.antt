@@ -7,7 +7,7 @@ use native.Mathlib.Omega.{arith}
 use lib.Dec.{eqb, ltb}
 use lib.ListN.{length, drop}
 use borrow.Author.Tests.{lt-leb, lt-ltb, eqb-true, eq-eqb, not-true}
-use Rattle.ground.proofs.Cases.{if, clash, below-or, and-left, and-right}
+use Rattle.ground.proofs.Cases.{if, below-or, and-left, and-right}
 use Rattle.lists.specs.Lists.{covered}
 use Rattle.tables.specs.Tables.{touched}
 use Rattle.profiles.specs.Profiles.{settles}
@@ -35,14 +35,13 @@ use Rattle.stored.specs.declared.Read.{Read}
 use Rattle.stored.proofs.IsForm.{is-form, first-none, first-tells}
 use Rattle.stored.proofs.UpTo.{upTo-low, upTo-high}
 use Rattle.stored.proofs.Back.{cut, reads-back}
-use Rattle.histories.specs.Histories.{Good, numberOf, accepted, after, afterAll}
+use Rattle.histories.specs.Histories.{Good, numberOf, accepted}
 use Rattle.histories.proofs.Afresh.{out-above}
 use Rattle.histories.proofs.Histories.{good-all}
 use Rattle.histories.proofs.Travels.{good-storable, good-read, form-kept}
 use Rattle.vault.specs.Entries.{Put, ChangesBy, same}
 use Rattle.vault.specs.declared.Reply.{Reply}
 use Rattle.demands.specs.Demand2.{Lines}
-use Rattle.demands.specs.Demand3.{Begins}
 use Rattle.demands.specs.Standings.{Converted, Standings}
 use Rattle.demands.proofs.Demand3.{first-read, begins-good}
 

@@ -1,7 +1,7 @@
 -- What is read off a sheet worked out afresh is the record's: each kept number, list, total and class size; and 7 never comes.
 use Prim.Native.Nat.{ℕ, _^_, _<_, _≤_}
 use mathlib.Core.Path.{_≡_, refl, sym, _∙_, ap, ap₂, subst, fun-ext}
-use mathlib.Core.Bool.{true, false, not}
+use mathlib.Core.Bool.{true, not}
 use mathlib.Core.List.{List}
 use native.Mathlib.Omega.{arith}
 use lib.ListN.{length}
@@ -15,7 +15,7 @@ use Rattle.tables.specs.Tables.{entry}
 use Rattle.tables.proofs.Entries.{afresh-entry, afresh-own}
 use Rattle.sheet.specs.Limits.{mostMarks, entries}
 use Rattle.classes.specs.Standings.{isIn, isOut}
-use Rattle.sheet.specs.Record.{Record, inClass, notOut, Table, outside-counts, either-counts, held-seconds, kept, quantity, sheetOf}
+use Rattle.sheet.specs.Record.{Record, inClass, Table, outside-counts, either-counts, held-seconds, kept, quantity, sheetOf}
 use Rattle.sheet.specs.Sound.{ClassReady, Ready, recordOf, sizeOf}
 use Rattle.sheet.specs.Calls.{ClassSize}
 use Rattle.classes.specs.declared.Standing.{Standing}

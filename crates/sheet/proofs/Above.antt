@@ -1,10 +1,10 @@
 -- Entries at 3^m and above are neither read nor changed: sheets that agree below get the same answer, and agree below afterwards.
 use Prim.Native.Nat.{ℕ, _+_, _^_, _<_}
 use mathlib.Core.Path.{_≡_, refl, sym, _∙_, ap, ap₂, subst}
-use mathlib.Core.Bool.{Bool, true, false, not, cond, _&&_}
+use mathlib.Core.Bool.{Bool, true, false, cond}
 use mathlib.Core.List.{List}
 use native.Mathlib.Omega.{arith}
-use lib.Dec.{eqb, leb, ltb}
+use lib.Dec.{leb}
 use borrow.Author.Tests.{ne-eqb}
 use Rattle.ground.proofs.Cases.{same-or}
 use Rattle.boxes.specs.Boxes.{single, freeCount}
@@ -20,11 +20,9 @@ use Rattle.sheet.specs.declared.Call.the-variants.{Change, Receive, With
 use Rattle.sheet.specs.declared.Move.{Move}
 use Rattle.sheet.specs.declared.Sheet.{Sheet}
 use Rattle.classes.specs.declared.Standing.{Standing}
-use Rattle.classes.specs.declared.Standing.the-variants.{Either}
-use Rattle.sheet.specs.Limits.{mostMarks, entries, marksOk, amountOk, mostHeld}
-use Rattle.classes.specs.Standings.{isEither, outs, eithers, tells}
+use Rattle.sheet.specs.Limits.{mostMarks, entries, marksOk, mostHeld}
+use Rattle.classes.specs.Standings.{outs, eithers}
 use Rattle.sheet.specs.Record.{Table, outside-counts, either-counts, held-seconds, kept, sheetWith}
-use Rattle.sheet.specs.Sound.{ownIn}
 use Rattle.sheet.specs.Calls.{answered, between, changeMove, fitsCount, fitsAmount, changeNo, amountNo, moveOf, shiftIn, movedSheet, numberOn, didOf}
 use Rattle.sheet.specs.Promises.{Long, Agree, Alike, AboveKept}
 use Rattle.sheet.proofs.Alters.{by-answer, table-moved}

@@ -1,9 +1,7 @@
 -- The shift from one number to another: it is some shift where they differ, and takes the one to the other.
 use Prim.Native.Nat.{ℕ, _-_, _<_}
-use mathlib.Core.Path.{_≡_, sym, subst}
-use mathlib.Core.Bool.{Bool, cond}
+use mathlib.Core.Path.{_≡_, sym}
 use native.Mathlib.Omega.{arith}
-use lib.Dec.{ltb}
 use borrow.Author.Tests.{lt-ltb, le-ltb}
 use Rattle.ground.proofs.Cases.{below-or}
 use Rattle.tables.specs.declared.Shift.{Shift}

@@ -1,6 +1,6 @@
 -- The class that sound counts tell: each combination is in it or counted, as out or as either, so the two all-free counts are what is missing to 2^m.
 use Prim.Native.Nat.{ℕ, _+_, _^_, _≤_}
-use mathlib.Core.Path.{_≡_, refl, sym, _∙_, ap}
+use mathlib.Core.Path.{_≡_, refl, _∙_, ap}
 use mathlib.Core.Bool.{Bool, cond}
 use mathlib.Core.List.{List}
 use native.Mathlib.Nat.{one-le-pow}

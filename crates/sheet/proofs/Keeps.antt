@@ -13,10 +13,9 @@ use Rattle.boxes.specs.Boxes.{allFree}
 use Rattle.boxes.proofs.Boxes.{contains-all}
 use Rattle.boxes.proofs.Sums.{sum-zero}
 use Rattle.tables.specs.declared.Shift.{Shift}
-use Rattle.tables.specs.declared.Shift.the-variants.{Stays}
 use Rattle.tables.specs.Tables.{entry, own, Sums, Shifts}
 use Rattle.tables.specs.Parts.{ShiftsAt}
-use Rattle.tables.proofs.Shifts.{own-shifts, shifted-sums, moved-stays}
+use Rattle.tables.proofs.Shifts.{own-shifts, shifted-sums}
 use Rattle.profiles.specs.Profiles.{breaks, profileOk, countOk, profileOf, namesOk}
 use Rattle.profiles.specs.declared.Profile.{Profile}
 use Rattle.profiles.specs.declared.Profile.the-variants.{None}
@@ -30,7 +29,7 @@ use Rattle.sheet.specs.declared.Answer.{Answer}
 use Rattle.sheet.specs.Limits.{marksOk, mostMarks, mostHeld, entries}
 use Rattle.classes.specs.Standings.{isEither, outs, eithers, tells}
 use Rattle.sheet.specs.Record.{Table, outside-counts, either-counts, held-seconds, kept, sheetOf, openedUnder}
-use Rattle.classes.specs.Sound.{CountsSound, ClassSound, Apart}
+use Rattle.classes.specs.Sound.{CountsSound, ClassSound}
 use Rattle.sheet.specs.Sound.{ownIn, TimesSound, ClassReady, Ready}
 use Rattle.sheet.specs.Calls.{openOf, openUnderOf, between, amountShift, amountMove, moveOf, shiftIn, movedSheet, numberOn, didOf}
 use Rattle.sheet.specs.Promises.{Long}
@@ -38,8 +37,8 @@ use Rattle.sheet.specs.Parts.{Accepted}
 use Rattle.sheet.proofs.Answers.{open-done, open-refused, open-under-done, open-under-faulty, open-under-refused}
 use Rattle.sheet.proofs.Between.{by-between}
 use Rattle.sheet.proofs.Kept.{adds-one, tells-either, class-sound, times-sound, opened-obeys}
-use Rattle.sheet.proofs.Alters.{by-answer, table-moved, table-shifted}
-use Rattle.sheet.proofs.Tests.{ChangePassed, AmountPassed, changes, amounts, accepts, boxes-fit, amount-fits}
+use Rattle.sheet.proofs.Alters.{by-answer, table-shifted}
+use Rattle.sheet.proofs.Tests.{AmountPassed, changes, amounts, accepts, boxes-fit, amount-fits}
 
 -- a shift from x to y takes x to y alone
 shifts-to : (x y z : ℕ) → Shifts (between x y) x z → z ≡ y

@@ -1,14 +1,13 @@
 -- A sheet worked out afresh from a record is sound, and tells the record.
 use Prim.Native.Nat.{ℕ, _+_, _^_, _<_, _≤_}
-use mathlib.Core.Path.{_≡_, refl, sym, _∙_, ap, ap₂}
-use mathlib.Core.Bool.{Bool, true, false}
+use mathlib.Core.Path.{_≡_, refl, sym, _∙_, ap₂}
+use mathlib.Core.Bool.{true}
 use native.Mathlib.Nat.{one-le-pow}
 use native.Mathlib.Omega.{arith}
 use borrow.Author.Tests.{lt-ltb}
 use Rattle.boxes.specs.Boxes.{allFree}
 use Rattle.boxes.specs.Sums.{sum}
 use Rattle.boxes.proofs.Boxes.{sumIn-all}
-use Rattle.ground.proofs.Cases.{clash}
 use Rattle.tables.specs.Tables.{entry, own, afresh}
 use Rattle.tables.proofs.Entries.{afresh-own, afresh-sums, afresh-entry}
 use Rattle.sheet.specs.Limits.{mostHeld}

@@ -1,7 +1,7 @@
 pub mod Between
 pub mod Tests
 pub mod Told
-pub mod Reading
+pub mod Over
 pub mod Ready
 pub mod Answers
 pub mod Opening

@@ -8,7 +8,7 @@ use Rattle.boxes.specs.Boxes.{sumIn, allFree}
 use Rattle.tables.specs.declared.Shift.the-variants.{Stays}
 use Rattle.tables.specs.Tables.{entry}
 use Rattle.tables.specs.Parts.{AllBear}
-use Rattle.sheet.specs.Limits.{mostMarks, entries, marksOk}
+use Rattle.sheet.specs.Limits.{mostMarks, marksOk}
 use Rattle.sheet.specs.Record.{Table, kept}
 use Rattle.sheet.specs.Calls.{shiftIn}
 use Rattle.sheet.specs.Promises.{SomeShift}

@@ -1,9 +1,9 @@
 -- When a sheet's tables are sound, and what they tell of the standings and times.
-use Prim.Native.Nat.{ℕ, _+_, _^_, _≤_, _<_}
+use Prim.Native.Nat.{ℕ, _^_, _≤_}
 use mathlib.Core.Path.{_≡_}
-use mathlib.Core.Bool.{Bool, true, cond, _&&_}
+use mathlib.Core.Bool.{Bool, true, cond}
 use mathlib.Core.List.{List}
-use lib.Dec.{eqb, ltb}
+use lib.Dec.{ltb}
 use Rattle.boxes.specs.Boxes.{allFree}
 use Rattle.boxes.specs.Sums.{sum, only}
 use Rattle.tables.specs.Tables.{entry, own, Sums}

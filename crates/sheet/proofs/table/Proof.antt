@@ -1,7 +1,7 @@
 -- The table is filled whole.
 use native.Mathlib.Omega.{arith}
 use borrow.Author.Needs.{needs}
-use Rattle.sheet.proofs.Reading.{boxes-within}
+use Rattle.sheet.proofs.Over.{boxes-within}
 use Rattle.sheet.proofs.table.Statement.{statement}
 use Rattle.sheet.proofs.table.Tie as tie
 

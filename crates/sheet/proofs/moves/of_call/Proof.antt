@@ -3,7 +3,7 @@ use mathlib.Core.Path.{subst}
 use native.Mathlib.Omega.{arith}
 use borrow.Author.Needs.{needs}
 use Rattle.sheet.specs.Parts.{SmallAmount}
-use Rattle.sheet.proofs.Reading.{boxes-within}
+use Rattle.sheet.proofs.Over.{boxes-within}
 use Rattle.sheet.proofs.moves.of_call.Statement.{statement}
 use Rattle.sheet.proofs.moves.of_call.Tie as tie
 

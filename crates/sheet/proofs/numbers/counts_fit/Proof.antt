@@ -1,18 +1,18 @@
 -- Each table of counts is judged by its own shift.
 use Prim.Native.Nat.{ℕ}
-use mathlib.Core.Bool.{Bool, true, false, _&&_}
+use mathlib.Core.Bool.{Bool, _&&_}
 use mathlib.Core.List.{List}
-use mathlib.Core.Path.{_≡_, sym, _∙_, ap, ap₂}
+use mathlib.Core.Path.{_≡_, sym, _∙_, ap}
 use native.Mathlib.Omega.{arith}
 use borrow.Author.Needs.{needs}
 use Rattle.tables.specs.declared.Shift.{Shift}
 use Rattle.tables.specs.Tables.{entry, own, touched}
-use Rattle.tables.specs.Parts.{Over, fitsMoved}
+use Rattle.tables.specs.Parts.{fitsMoved}
 use Rattle.tables.proofs.Touched.{touched-ext}
 use Rattle.classes.specs.Standings.{outs, eithers}
 use Rattle.sheet.specs.Calls.{between, fitsCount}
 use Rattle.sheet.proofs.Tests.{count-bounds}
-use Rattle.sheet.proofs.Reading.{boxes-within}
+use Rattle.sheet.proofs.Over.{boxes-within}
 use Rattle.sheet.proofs.numbers.counts_fit.Statement.{statement}
 use Rattle.sheet.proofs.numbers.counts_fit.Tie as tie
 
