@@ -17,10 +17,11 @@ use Rattle.profiles.proofs.Named.{count-or}
 use Rattle.sheet.specs.Limits.{mostMarks}
 use Rattle.sheet.specs.Record.{Record, withProfile, Obeys}
 use Rattle.stored.specs.Fields.{Next, due, groups, group, perhaps, complete, end, groupsDue, judge, Outcome, refused, Run, done, without, with, broken, obeyed}
-use Rattle.reading.specs.Parts.{FieldRead, Leads, Carried, bad, good, With, GroupsRead, Covered, ProfileBefore, ProfileRead}
-use Rattle.reading.specs.declared.fields.Field.{Field}
+use Rattle.sections.specs.Parts.{FieldRead, Leads}
+use Rattle.reading.specs.Parts.{Carried, bad, good, With, GroupsRead, Covered, ProfileBefore, ProfileRead}
+use Rattle.sections.specs.declared.fields.Field.{Field}
 use Rattle.reading.specs.declared.groups.Groups.{Groups}
-use Rattle.reading.proofs.Offsets.{then, then-run, field-number, field-taken, field-wrong, field-barred}
+use Rattle.sections.proofs.Offsets.{then, then-run, field-number, field-taken, field-wrong, field-barred}
 
 module _ {t : List ℕ} {R : Record → Type 0} {from to : Record → Next} {start : ℕ} {g : Groups} where
   -- groups that are refused at a place, and those that are read

@@ -30,12 +30,13 @@ use Rattle.stored.specs.Fields.{Bytes, due, marks, count, end, restDue, judge, 
 use Rattle.stored.specs.Answers.{readOf, ReadsBy}
 use Rattle.stored.specs.Parts.{Neither}
 use Rattle.stored.proofs.IsForm.{is-form}
-use Rattle.reading.specs.Parts.{Leads, withOwn, ReadBefore, EitherRead, ProfileBefore, EndRead}
+use Rattle.sections.specs.Parts.{Leads, withOwn, ReadBefore}
+use Rattle.reading.specs.Parts.{EitherRead, ProfileBefore, EndRead}
 use Rattle.reading.specs.declared.groups.Groups.{Groups}
-use Rattle.reading.specs.declared.sections.Part.{Part}
-use Rattle.reading.proofs.Offsets.{start as at-start, number-first, leads-field, faulty-at}
-use Rattle.reading.proofs.Own.{own-start}
-use Rattle.reading.proofs.Entries.{part-bad, part-good}
+use Rattle.sections.specs.declared.Part.{Part}
+use Rattle.sections.proofs.Offsets.{start as at-start, number-first, leads-field, faulty-at}
+use Rattle.sections.proofs.Own.{own-start}
+use Rattle.sections.proofs.Entries.{part-bad, part-good}
 use Rattle.reading.proofs.Carried.{carried-run, carried-leads}
 
 -- what follows behind the held section, and behind the class

@@ -7,8 +7,8 @@ ghost use Rattle.ground.specs.Decides.{Decides};
 ghost use Rattle.profiles.specs.Profiles.{countOk};
 ghost use Rattle.sheet.specs.Limits.{mostMarks};
 ghost use Rattle.reading.specs.Parts.{GroupRead, GroupsRead, Covered, ProfileRead};
-use crate::fields;
 use profiles::Profile;
+use sections::fields;
 
 // Groups that were read: the profile that they make, and where the next field stands; or, if they are not good, the place.
 pub struct Groups {

@@ -6,9 +6,7 @@ ghost use Rattle.stored.specs.Answers.{ReadsBy, Reads};
 ghost use Rattle.stored.specs.declared.Layout.the-variants.{First};
 ghost use Rattle.reading.specs.Parts.{EitherRead, EndRead};
 
-mod fields;
 mod groups;
-mod sections;
 
 use groups::Groups;
 use profiles::Profile;

@@ -14,9 +14,9 @@ use Rattle.sheet.specs.Record.{Record, opened}
 use Rattle.stored.specs.Sections.{Rest, sections}
 use Rattle.stored.specs.Fields.{Bytes, due, marks, count, end, restDue, refused, good as good-outcome, ReadingBy}
 use Rattle.stored.specs.declared.Section.the-variants.{Class, Held}
-use Rattle.reading.specs.Parts.{Leads, ReadBefore, Got}
-use Rattle.reading.proofs.Offsets.{then, then-run, early-at, left-over, all-read}
-use Rattle.reading.proofs.Entries.{part-bad, part-good}
+use Rattle.sections.specs.Parts.{Leads, ReadBefore, Got}
+use Rattle.sections.proofs.Offsets.{then, then-run, early-at, left-over, all-read}
+use Rattle.sections.proofs.Entries.{part-bad, part-good}
 use Rattle.reading.proofs.Whole.{behindClass, behindHeld, refusal-read, marks-taken, marks-wrong, classRead, standingsRead, heldRead, wholeRecord, before-class, before-held, EitherGot, either-bad, either-good, end-bad, end-good, times-addable, outs-addable, read-answered}
 use Rattle.reading.proofs.read_by.Statement.{statement}
 use Rattle.reading.proofs.read_by.Tie as tie

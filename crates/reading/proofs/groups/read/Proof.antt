@@ -7,7 +7,7 @@ use Rattle.ground.proofs.Cases.{denied}
 use Rattle.sheet.specs.Record.{Record}
 use Rattle.stored.specs.Fields.{perhaps, complete}
 use Rattle.reading.specs.Parts.{Carried, ProfileBefore}
-use Rattle.reading.proofs.Offsets.{field-inside}
+use Rattle.sections.proofs.Offsets.{field-inside}
 use Rattle.reading.proofs.Carried.{carried-stopped, carried-bad, carried-after, groups-counted, profile-counted, profile-uncounted, profile-none, profile-obeyed, profile-broken}
 use Rattle.reading.proofs.groups.read.Statement.{statement}
 use Rattle.reading.proofs.groups.read.Tie as tie

@@ -2,7 +2,7 @@
 use mathlib.Core.Path.{refl, sym, _∙_}
 use borrow.Author.Tests.{not-true, not-false}
 use borrow.Author.Needs.{needs}
-use Rattle.reading.proofs.Offsets.{field-inside}
+use Rattle.sections.proofs.Offsets.{field-inside}
 use Rattle.reading.proofs.Carried.{carried-stopped, carried-made, group-taken, group-barred, group-early}
 use Rattle.reading.proofs.groups.read_group.Statement.{statement}
 use Rattle.reading.proofs.groups.read_group.Tie as tie

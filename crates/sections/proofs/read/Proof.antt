@@ -3,11 +3,11 @@ use Prim.Native.Nat.{ℕ, _^_}
 use mathlib.Core.Path.{subst}
 use borrow.Author.Tests.{not-true, not-false}
 use borrow.Author.Needs.{needs}
-use Rattle.reading.specs.Parts.{FieldRead}
-use Rattle.reading.proofs.Offsets.{field-inside}
-use Rattle.reading.proofs.Entries.{count-taken, count-wrong, part-stopped, part-after}
-use Rattle.reading.proofs.sections.read.Statement.{statement}
-use Rattle.reading.proofs.sections.read.Tie as tie
+use Rattle.sections.specs.Parts.{FieldRead}
+use Rattle.sections.proofs.Offsets.{field-inside}
+use Rattle.sections.proofs.Entries.{count-taken, count-wrong, part-stopped, part-after}
+use Rattle.sections.proofs.read.Statement.{statement}
+use Rattle.sections.proofs.read.Tie as tie
 
 counted : (c : tie.After-read) → FieldRead (c .before .before .before .args .t .now) (c .before .before .before .args .at) 2 0 (2 ^ c .before .before .before .args .m) (c .read .result)
 counted c = subst (λ (n : ℕ). FieldRead (c .before .before .before .args .t .now) (c .before .before .before .args .at) 2 0 n (c .read .result)) (c .before .power2 .ensures .0) (c .read .ensures)

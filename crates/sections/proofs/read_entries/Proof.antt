@@ -8,11 +8,11 @@ use borrow.Author.Tests.{not-true, not-false}
 use Rattle.sheet.proofs.Opening.{combinations-fit, same-entry}
 use Rattle.sheet.specs.Limits.{mostHeld}
 use Rattle.stored.specs.Sections.{bytesBehind}
-use Rattle.reading.specs.Parts.{FieldRead, least, good}
-use Rattle.reading.proofs.Offsets.{field-inside, field-number}
-use Rattle.reading.proofs.Entries.{EntriesReached, reached-none, reached-end, part-stopped, entry-wrong, entry-barred, number-wrong, reached-more}
-use Rattle.reading.proofs.sections.read_entries.Statement.{statement}
-use Rattle.reading.proofs.sections.read_entries.Tie as tie
+use Rattle.sections.specs.Parts.{FieldRead, least, good}
+use Rattle.sections.proofs.Offsets.{field-inside, field-number}
+use Rattle.sections.proofs.Entries.{EntriesReached, reached-none, reached-end, part-stopped, entry-wrong, entry-barred, number-wrong, reached-more}
+use Rattle.sections.proofs.read_entries.Statement.{statement}
+use Rattle.sections.proofs.read_entries.Tie as tie
 
 abbrev Inv-loop : tie.InvT-loop
 Inv-loop t start m n section barred top k few own₀ at₀ low₀ sum₀ left₀ own at low sum left =

@@ -2,9 +2,9 @@
 use mathlib.Core.Path.{refl}
 use native.Mathlib.Omega.{arith}
 use borrow.Author.Needs.{needs}
-use Rattle.reading.specs.Parts.{early, faulty, fits}
-use Rattle.reading.proofs.fields.read.Statement.{statement}
-use Rattle.reading.proofs.fields.read.Tie as tie
+use Rattle.sections.specs.Parts.{early, faulty, fits}
+use Rattle.sections.proofs.fields.read.Statement.{statement}
+use Rattle.sections.proofs.fields.read.Tie as tie
 
 returns : tie.Need-returns
 returns c = early refl (omega arith) refl

@@ -3,10 +3,10 @@ use Prim.Native.Nat.{ℕ, _+_, _-_, _^_, _≤_, _<_}
 use mathlib.Core.Path.{_≡_, subst}
 use native.Mathlib.Omega.{arith}
 use borrow.Author.Needs.{needs}
-use Rattle.reading.specs.Parts.{numberAt}
-use Rattle.reading.proofs.Offsets.{number-none, number-small, number-fits, number-grows, number-done}
-use Rattle.reading.proofs.fields.number_at.Statement.{statement}
-use Rattle.reading.proofs.fields.number_at.Tie as tie
+use Rattle.sections.specs.Parts.{numberAt}
+use Rattle.sections.proofs.Offsets.{number-none, number-small, number-fits, number-grows, number-done}
+use Rattle.sections.proofs.fields.number_at.Statement.{statement}
+use Rattle.sections.proofs.fields.number_at.Tie as tie
 
 abbrev Inv-loop : tie.InvT-loop
 Inv-loop t at k n₀ i₀ n i = (i ≤ k) × (n ≡ numberAt t (at + (k - i)) i) × (n < 256 ^ i)

@@ -14,8 +14,8 @@ use Rattle.sheet.specs.Record.{Record}
 use Rattle.stored.specs.Fields.{numberIn, Due, width, Next, due, end, wrong, judge, Outcome, good, refused, Run, done, over, early, faulty}
 use Rattle.stored.proofs.Runs.{goes}
 use Rattle.stored.proofs.Numbers.{number-one}
-use Rattle.reading.specs.Parts.{numberAt, Leads, FieldRead, early as field-early, faulty as field-faulty, fits}
-use Rattle.reading.specs.declared.fields.Field.{Field}
+use Rattle.sections.specs.Parts.{numberAt, Leads, FieldRead, early as field-early, faulty as field-faulty, fits}
+use Rattle.sections.specs.declared.fields.Field.{Field}
 
 -- the number of k bytes
 

@@ -4,8 +4,10 @@ ghost use mathlib.Core.Bool.{false};
 ghost use Prim.Native.Nat.{_≤_};
 ghost use lib.ListN.{length};
 ghost use Rattle.sheet.specs.Limits.{mostMarks};
-ghost use Rattle.reading.specs.Parts.{least, hasIn, EntriesRead, SectionRead};
-use crate::fields;
+ghost use Rattle.sections.specs.Parts.{least, hasIn, EntriesRead, SectionRead};
+
+pub mod fields;
+
 use sheet::Sheet;
 use stored::Section;
 

@@ -2,7 +2,7 @@
 ghost use mathlib.Core.Path.{_≡_};
 ghost use Prim.Native.Nat.{_+_, _^_, _≤_, _<_};
 ghost use lib.ListN.{length};
-ghost use Rattle.reading.specs.Parts.{numberAt, FieldRead};
+ghost use Rattle.sections.specs.Parts.{numberAt, FieldRead};
 
 // A field that was read: its number, and where the next field stands; or, if it is not good, the place.
 pub struct Field {

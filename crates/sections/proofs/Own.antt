@@ -22,7 +22,7 @@ use Rattle.stored.specs.Sections.{bytesBehind, standsIn, takes, mayStand, added
 use Rattle.stored.specs.declared.Section.{Section}
 use Rattle.stored.specs.declared.Section.the-variants.{Class, Either, Held}
 use Rattle.stored.proofs.UpTo.{updated-is}
-use Rattle.reading.specs.Parts.{least, mostOwn, hasIn, withOwn}
+use Rattle.sections.specs.Parts.{least, mostOwn, hasIn, withOwn}
 
 pub own-marks : (s : Section) (f : ℕ → ℕ) (r : Record) → withOwn s f r .marks ≡ r .marks
 own-marks Class f r = refl

@@ -17,11 +17,11 @@ use Rattle.stored.specs.Sections.{Rest, bytesBehind, takes, heldIn, added}
 use Rattle.stored.specs.Fields.{Next, due, count, combination, behind, restDue, entriesDue, judge, refused, Run}
 use Rattle.stored.specs.declared.Section.{Section}
 use Rattle.stored.proofs.Sections.{held-more}
-use Rattle.reading.specs.Parts.{FieldRead, Leads, least, hasIn, withOwn, ReadBefore, Got, PartRead, bad, good}
-use Rattle.reading.specs.declared.fields.Field.{Field}
-use Rattle.reading.specs.declared.sections.Part.{Part}
-use Rattle.reading.proofs.Offsets.{start as at-start, then, then-run, field-inside, field-number, field-taken, field-wrong, field-barred}
-use Rattle.reading.proofs.Own.{own-marks, own-start, set-here, set-other, own-added, own-none, own-takes, may-stand, may-not, own-most}
+use Rattle.sections.specs.Parts.{FieldRead, Leads, least, hasIn, withOwn, ReadBefore, Got, PartRead, bad, good}
+use Rattle.sections.specs.declared.fields.Field.{Field}
+use Rattle.sections.specs.declared.Part.{Part}
+use Rattle.sections.proofs.Offsets.{start as at-start, then, then-run, field-inside, field-number, field-taken, field-wrong, field-barred}
+use Rattle.sections.proofs.Own.{own-marks, own-start, set-here, set-other, own-added, own-none, own-takes, may-stand, may-not, own-most}
 
 -- a combination is due where some are left, and what follows the section where none is
 entries-some : (s : Section) (rest : Rest) (r : Record) (left low : ℕ) → 0 < left → entriesDue s rest r left low ≡ due (combination s rest r (left - 1) low)

@@ -1,0 +1,3 @@
+pub mod Offsets
+pub mod Own
+pub mod Entries
