@@ -33,7 +33,7 @@ pub record Said : Type 0 where
 abbrev pub nothingSaid : Said
 nothingSaid = record { inputs = 0; output = false; count = uncounted; cubes = [] }
 
--- the record of a class of m marks that holds nothing: what is not in it is out
+-- the record of a class of m marks without a profile, that holds nothing: what is not in it is out
 abbrev pub classAlone : ℕ → (ℕ → Bool) → Record
 classAlone m class = withStanding (λ c. cond (class c) In Out) (opened m)
 
