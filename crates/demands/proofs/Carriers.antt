@@ -9,8 +9,10 @@ use Rattle.ground.proofs.Cases.{if, clash}
 use Rattle.lists.proofs.Needed.{each-needed}
 use Rattle.profiles.specs.Profiles.{profileOk, breaks, settles}
 use Rattle.profiles.specs.declared.Profile.{Profile}
-use Rattle.sheet.specs.Limits.{mostMarks, entries}
 use Rattle.classes.specs.Standings.{isIn, isOut, isEither}
+use Rattle.classes.specs.declared.Standing.{Standing}
+use Rattle.classes.specs.declared.Standing.the-variants.{In, Out, Either}
+use Rattle.sheet.specs.Limits.{mostMarks, entries}
 use Rattle.sheet.specs.Record.{Record, inClass, notOut, Obeys, openedUnder}
 use Rattle.sheet.specs.Sound.{Ready}
 use Rattle.sheet.specs.Calls.{changeNo, amountNo}
@@ -18,8 +20,6 @@ use Rattle.sheet.specs.declared.Answer.{Answer}
 use Rattle.sheet.specs.declared.Call.{Call}
 use Rattle.sheet.specs.declared.Call.the-variants.{Change, Receive, Withdraw}
 use Rattle.sheet.specs.declared.Sheet.{Sheet}
-use Rattle.classes.specs.declared.Standing.{Standing}
-use Rattle.classes.specs.declared.Standing.the-variants.{In, Out, Either}
 use Rattle.sheet.proofs.Answers.{open-under-refused, open-under-faulty, open-under-done}
 use Rattle.sheet.proofs.Opening.{opened-low}
 use Rattle.sheet.proofs.Tests.{change-2, change-settled}

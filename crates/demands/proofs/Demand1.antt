@@ -10,15 +10,15 @@ use borrow.Author.Tests.{ne-eqb}
 use Rattle.ground.proofs.Cases.{if, clash}
 use Rattle.tables.specs.Tables.{touched}
 use Rattle.profiles.specs.Profiles.{settles, profileOf, namesOk}
-use Rattle.sheet.specs.Limits.{mostMarks, entries, marksOk, amountOk}
 use Rattle.classes.specs.Standings.{isEither, tells}
+use Rattle.classes.specs.declared.Standing.{Standing}
+use Rattle.classes.specs.declared.Standing.the-variants.{Either}
+use Rattle.sheet.specs.Limits.{mostMarks, entries, marksOk, amountOk}
 use Rattle.sheet.specs.Record.{Table, outside-counts, either-counts, held-seconds, sheetOf, openedUnder, opened}
 use Rattle.sheet.specs.Sound.{ownIn}
 use Rattle.sheet.specs.Calls.{openOf, openUnderOf, countsFit, fitsAmount, changeNo, amountNo, numberOn, didOf, moveOf, movedSheet, ClassSize}
 use Rattle.sheet.specs.declared.Call.{Call}
 use Rattle.sheet.specs.declared.Call.the-variants.{Change, Receive, Withdraw}
-use Rattle.classes.specs.declared.Standing.{Standing}
-use Rattle.classes.specs.declared.Standing.the-variants.{Either}
 use Rattle.sheet.specs.declared.Sheet.{Sheet}
 use Rattle.sheet.specs.declared.Answer.{Answer}
 use Rattle.sheet.specs.declared.Value.{Value}

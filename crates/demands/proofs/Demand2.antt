@@ -13,11 +13,11 @@ use Rattle.lists.proofs.Class.{rising-same}
 use Rattle.lists.proofs.Exist.{exists, at-most-half}
 use Rattle.lists.proofs.First.{unique}
 use Rattle.lists.proofs.Pottosin.{fits-independent, first-smallest}
-use Rattle.sheet.specs.Limits.{mostMarks}
 use Rattle.classes.specs.Standings.{isIn, isOut, isEither}
-use Rattle.sheet.specs.Record.{Record, inClass, notOut, NoneEither}
 use Rattle.classes.specs.declared.Standing.{Standing}
 use Rattle.classes.specs.declared.Standing.the-variants.{In, Out, Either}
+use Rattle.sheet.specs.Limits.{mostMarks}
+use Rattle.sheet.specs.Record.{Record, inClass, notOut, NoneEither}
 use Rattle.sheet.proofs.Tests.{some-marks}
 use Rattle.sheet.proofs.Told.{in-not-out}
 use Rattle.sheet.specs.Sound.{ClassReady, recordOf}

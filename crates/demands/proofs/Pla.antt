@@ -17,13 +17,13 @@ use Rattle.boxes.proofs.Sums.{sum-ext, sum-zero, only-zero}
 use Rattle.print.specs.Texts.{sign}
 use Rattle.print.proofs.Patterns.{pattern-mark}
 use Rattle.lists.specs.Lists.{covered, Fits}
-use Rattle.sheet.specs.Limits.{mostMarks, entries, marksOk}
 use Rattle.classes.specs.Standings.{isIn, isOut, isEither}
+use Rattle.classes.specs.declared.Standing.{Standing}
+use Rattle.classes.specs.declared.Standing.the-variants.{In, Out, Either}
+use Rattle.sheet.specs.Limits.{mostMarks, entries, marksOk}
 use Rattle.sheet.specs.Record.{Record, inClass, notOut, held-seconds, sheetOf}
 use Rattle.sheet.specs.Sound.{recordOf}
 use Rattle.sheet.specs.declared.Sheet.{Sheet}
-use Rattle.classes.specs.declared.Standing.{Standing}
-use Rattle.classes.specs.declared.Standing.the-variants.{In, Out, Either}
 use Rattle.sheet.specs.declared.Value.{Value}
 use Rattle.sheet.proofs.Told.{in-not-out, not-out-low}
 use Rattle.listing.proofs.Laid.{class-small}

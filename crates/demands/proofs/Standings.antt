@@ -12,15 +12,15 @@ use Rattle.lists.specs.Lists.{covered}
 use Rattle.tables.specs.Tables.{touched}
 use Rattle.profiles.specs.Profiles.{settles}
 use Rattle.profiles.specs.declared.Profile.the-variants.{None}
-use Rattle.sheet.specs.Limits.{mostMarks, entries, marksOk, amountOk}
 use Rattle.classes.specs.Standings.{is, isOut, isEither, outs, eithers, tells}
+use Rattle.classes.specs.declared.Standing.{Standing}
+use Rattle.classes.specs.declared.Standing.the-variants.{In, Out, Either}
+use Rattle.sheet.specs.Limits.{mostMarks, entries, marksOk, amountOk}
 use Rattle.sheet.specs.Record.{Record, NoneEither, outside-counts, either-counts, held-seconds, sheetOf}
 use Rattle.sheet.specs.Sound.{ownIn, recordOf}
 use Rattle.sheet.specs.Calls.{fitsAmount, amountNo}
 use Rattle.sheet.specs.declared.Call.the-variants.{Change, Receive}
 use Rattle.sheet.specs.declared.Sheet.{Sheet}
-use Rattle.classes.specs.declared.Standing.{Standing}
-use Rattle.classes.specs.declared.Standing.the-variants.{In, Out, Either}
 use Rattle.sheet.specs.declared.Value.{Value}
 use Rattle.sheet.proofs.Kept.{told-back}
 use Rattle.sheet.proofs.Tests.{change-own, amount-2, amount-4, amount-last, amount-0}

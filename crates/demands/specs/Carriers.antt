@@ -10,16 +10,16 @@ use Rattle.boxes.specs.Boxes.{contains}
 use Rattle.profiles.specs.Profiles.{profileOk, breaks, profileOf, namesOk}
 use Rattle.profiles.specs.declared.Profile.{Profile}
 use Rattle.profiles.specs.declared.Profile.the-variants.{None}
+use Rattle.classes.specs.Standings.{tells}
+use Rattle.classes.specs.declared.Standing.{Standing}
+use Rattle.classes.specs.declared.Standing.the-variants.{Out, Either}
 use Rattle.sheet.specs.Limits.{mostMarks, entries, marksOk}
 use Rattle.sheet.specs.Record.{Record, inClass, notOut, outside-counts, either-counts, sheetWith, sheetOf, Obeys, openedUnder}
-use Rattle.classes.specs.Standings.{tells}
 use Rattle.sheet.specs.Sound.{ownIn, ClassReady, Ready}
 use Rattle.sheet.specs.Calls.{openUnderOf, didOf}
 use Rattle.sheet.specs.declared.Call.{Call}
 use Rattle.sheet.specs.declared.Call.the-variants.{Change, Receive, Withdraw}
 use Rattle.sheet.specs.declared.Sheet.{Sheet}
-use Rattle.classes.specs.declared.Standing.{Standing}
-use Rattle.classes.specs.declared.Standing.the-variants.{Out, Either}
 use Rattle.stored.specs.Fields.{Bytes, good, ReadingBy}
 use Rattle.stored.specs.declared.Layout.the-variants.{First}
 use Rattle.pla.specs.Reading.{PlaSays}

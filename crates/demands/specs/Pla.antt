@@ -10,8 +10,8 @@ use Rattle.ground.specs.Decides.{Decides}
 use Rattle.print.specs.Texts.{sign}
 use Rattle.tables.specs.Tables.{entry}
 use Rattle.lists.specs.Lists.{covered}
-use Rattle.sheet.specs.Limits.{mostMarks, entries, marksOk}
 use Rattle.classes.specs.Standings.{isEither}
+use Rattle.sheet.specs.Limits.{mostMarks, entries, marksOk}
 use Rattle.sheet.specs.Record.{Record, inClass, NoneEither, sheetOf}
 use Rattle.sheet.specs.Sound.{recordOf}
 use Rattle.sheet.specs.declared.Sheet.{Sheet}

@@ -8,16 +8,16 @@ use lib.ListN.{length, drop}
 use Rattle.lists.specs.Lists.{covered}
 use Rattle.profiles.specs.Profiles.{settles}
 use Rattle.profiles.specs.declared.Profile.the-variants.{None}
-use Rattle.sheet.specs.Limits.{mostMarks, entries, marksOk, amountOk}
 use Rattle.classes.specs.Standings.{is, isOut, isEither, outs, eithers, tells, toldBy}
+use Rattle.classes.specs.declared.Standing.{Standing}
+use Rattle.classes.specs.declared.Standing.the-variants as standing
+use Rattle.sheet.specs.Limits.{mostMarks, entries, marksOk, amountOk}
 use Rattle.sheet.specs.Record.{Record, inClass, NoneEither, outside-counts, either-counts, held-seconds}
 use Rattle.sheet.specs.Sound.{ownIn}
 use Rattle.sheet.specs.Calls.{didOf}
 use Rattle.sheet.specs.declared.Call.{Call}
 use Rattle.sheet.specs.declared.Call.the-variants.{Change, Receive}
 use Rattle.sheet.specs.declared.Sheet.{Sheet}
-use Rattle.classes.specs.declared.Standing.{Standing}
-use Rattle.classes.specs.declared.Standing.the-variants as standing
 use Rattle.sheet.specs.declared.Value.{Value}
 use Rattle.listing.specs.Listing.{Totalled}
 use Rattle.stored.specs.Fields.{Bytes, good, ReadingBy}

@@ -11,8 +11,8 @@ use Rattle.ground.proofs.Cases.{if}
 use Rattle.profiles.specs.Profiles.{settles}
 use Rattle.profiles.specs.declared.Profile.{Profile}
 use Rattle.profiles.specs.declared.Profile.the-variants.{None}
-use Rattle.sheet.specs.Limits.{mostMarks, mostHeld, marksOk, amountOk}
 use Rattle.classes.specs.Standings.{isIn, isOut}
+use Rattle.sheet.specs.Limits.{mostMarks, mostHeld, marksOk, amountOk}
 use Rattle.sheet.specs.Record.{Record, NoneEither, opened}
 use Rattle.sheet.specs.declared.Call.{Call}
 use Rattle.histories.specs.Histories.{numberOf, accepted, after}

@@ -15,11 +15,11 @@ use Rattle.ground.specs.Texts.{ascii}
 use Rattle.times.specs.Texts.{Readable}
 use Rattle.print.specs.Texts.{decimal, decimalIn, clock, pattern}
 use Rattle.clock.proofs.ReadsBack.{clock-readable}
-use Rattle.sheet.specs.Limits.{marksOk, amountOk}
 use Rattle.classes.specs.Standings.{isIn, isOut}
-use Rattle.sheet.specs.declared.Call.the-variants.{Change, Receive, Withdraw}
 use Rattle.classes.specs.declared.Standing.{Standing}
 use Rattle.classes.specs.declared.Standing.the-variants.{In, Out}
+use Rattle.sheet.specs.Limits.{marksOk, amountOk}
+use Rattle.sheet.specs.declared.Call.the-variants.{Change, Receive, Withdraw}
 use Rattle.machine.specs.Rows.{whole, rowsFrom, judged}
 use Rattle.machine.specs.Machine.{Onward}
 use Rattle.times.specs.declared.Form.the-variants.{NoTime, Minutes}

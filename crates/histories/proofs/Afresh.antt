@@ -13,13 +13,13 @@ use Rattle.ground.proofs.Cases.{if, clash, below-or}
 use Rattle.boxes.proofs.Sums.{sum-ext}
 use Rattle.tables.specs.Tables.{entry}
 use Rattle.tables.proofs.Entries.{afresh-entry, afresh-own}
-use Rattle.sheet.specs.Limits.{mostMarks, entries}
 use Rattle.classes.specs.Standings.{isIn, isOut}
+use Rattle.classes.specs.declared.Standing.{Standing}
+use Rattle.classes.specs.declared.Standing.the-variants.{In, Out, Either}
+use Rattle.sheet.specs.Limits.{mostMarks, entries}
 use Rattle.sheet.specs.Record.{Record, inClass, Table, outside-counts, either-counts, held-seconds, kept, quantity, sheetOf}
 use Rattle.sheet.specs.Sound.{ClassReady, Ready, recordOf, sizeOf}
 use Rattle.sheet.specs.Calls.{ClassSize}
-use Rattle.classes.specs.declared.Standing.{Standing}
-use Rattle.classes.specs.declared.Standing.the-variants.{In, Out, Either}
 use Rattle.sheet.specs.declared.Value.{Value}
 use Rattle.sheet.proofs.Kept.{class-sound, standing-told, times-sound}
 use Rattle.sheet.proofs.Keeps.{class-of-ready}

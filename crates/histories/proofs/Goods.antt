@@ -12,12 +12,12 @@ use Rattle.lists.specs.Lists.{Small}
 use Rattle.profiles.specs.Profiles.{profileOk, breaks, settles}
 use Rattle.profiles.specs.declared.Profile.{Profile}
 use Rattle.profiles.specs.declared.Profile.the-variants.{None}
-use Rattle.sheet.specs.Limits.{mostMarks, mostHeld, marksOk, amountOk}
 use Rattle.classes.specs.Standings.{is, isOut, isEither}
+use Rattle.classes.specs.declared.Standing.{Standing}
+use Rattle.sheet.specs.Limits.{mostMarks, mostHeld, marksOk, amountOk}
 use Rattle.sheet.specs.Record.{Record, inClass, updated, openedUnder, opened}
 use Rattle.sheet.specs.declared.Call.{Call}
 use Rattle.sheet.specs.declared.Call.the-variants.{Change, Receive, Withdraw}
-use Rattle.classes.specs.declared.Standing.{Standing}
 use Rattle.sheet.proofs.Kept.{opened-obeys}
 use Rattle.sheet.proofs.Told.{in-not-out}
 use Rattle.histories.specs.Histories.{Good, numberOf, accepted, after}

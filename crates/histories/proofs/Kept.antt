@@ -11,8 +11,8 @@ use Rattle.ground.proofs.Cases.{below-or, same-or}
 use Rattle.tables.specs.Tables.{afresh, moved}
 use Rattle.tables.specs.Parts.{ShiftsAt}
 use Rattle.tables.proofs.Shifts.{stays-at, moved-afresh}
-use Rattle.sheet.specs.Limits.{mostMarks, entries, marksOk, amountOk}
 use Rattle.classes.specs.Standings.{outs, eithers}
+use Rattle.sheet.specs.Limits.{mostMarks, entries, marksOk, amountOk}
 use Rattle.sheet.specs.Record.{Record, Table, outside-counts, either-counts, held-seconds, quantity, sheetWith, sheetFrom, sheetOf}
 use Rattle.sheet.specs.Calls.{answered, amountShift, moveOf, shiftIn, movedSheet, didOf}
 use Rattle.sheet.specs.declared.Call.{Call}

@@ -19,15 +19,15 @@ use Rattle.tables.proofs.Entries.{afresh-entry, afresh-own}
 use Rattle.tables.proofs.Shifts.{sum-shifts}
 use Rattle.tables.proofs.Touched.{touched-at, touched-yes}
 use Rattle.profiles.specs.Profiles.{settles}
-use Rattle.sheet.specs.Limits.{mostMarks, marksOk, amountOk, mostHeld}
 use Rattle.classes.specs.Standings.{is, isEither, outs, eithers, tells}
+use Rattle.classes.specs.declared.Standing.{Standing}
+use Rattle.classes.specs.declared.Standing.the-variants.{Either}
+use Rattle.sheet.specs.Limits.{mostMarks, marksOk, amountOk, mostHeld}
 use Rattle.sheet.specs.Record.{Record, updated, outside-counts, either-counts, held-seconds, quantity, sheetOf}
 use Rattle.sheet.specs.Sound.{ownIn}
 use Rattle.sheet.specs.Calls.{between, fitsCount, countsFit, fitsAmount, changeNo, amountNo, numberOn}
 use Rattle.sheet.specs.declared.Call.{Call}
 use Rattle.sheet.specs.declared.Call.the-variants.{Change, Receive, Withdraw}
-use Rattle.classes.specs.declared.Standing.{Standing}
-use Rattle.classes.specs.declared.Standing.the-variants.{Either}
 use Rattle.sheet.proofs.Between.{between-shifts}
 use Rattle.sheet.proofs.Kept.{adds-one, tells-is, times-total}
 use Rattle.sheet.proofs.Tests.{change-2, change-settled, change-3, change-12, change-0}

@@ -7,8 +7,8 @@ use native.Mathlib.Omega.{arith}
 use lib.ListN.{length}
 use borrow.Author.Tests.{lt-ltb, le-ltb}
 use Rattle.ground.proofs.Cases.{clash, below-or}
-use Rattle.sheet.specs.Limits.{mostMarks, entries}
 use Rattle.classes.specs.Standings.{isOut}
+use Rattle.sheet.specs.Limits.{mostMarks, entries}
 use Rattle.sheet.specs.Record.{Record, sheetOf}
 use Rattle.sheet.specs.Sound.{recordOf}
 use Rattle.sheet.specs.declared.Sheet.{Sheet}

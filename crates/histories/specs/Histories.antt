@@ -7,8 +7,8 @@ use mathlib.Core.List.{List, [], _∷_}
 use lib.Dec.{eqb, leb, ltb}
 use Rattle.boxes.specs.Sums.{sum, only}
 use Rattle.profiles.specs.Profiles.{profileOk, settles}
-use Rattle.sheet.specs.Limits.{mostMarks, mostHeld, marksOk, amountOk}
 use Rattle.classes.specs.Standings.{is, isOut, isEither}
+use Rattle.sheet.specs.Limits.{mostMarks, mostHeld, marksOk, amountOk}
 use Rattle.sheet.specs.Record.{Record, withStanding, withTimes, updated, inClass, notOut, Obeys}
 use Rattle.sheet.specs.Calls.{didOf}
 use Rattle.sheet.specs.declared.Sheet.{Sheet}

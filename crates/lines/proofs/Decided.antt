@@ -14,9 +14,9 @@ use Rattle.ground.specs.Texts.{ascii, Begins}
 use Rattle.times.specs.Texts.{Readable}
 use Rattle.times.specs.Places.{ReadsAs}
 use Rattle.times.proofs.Decided.{time-decided}
+use Rattle.classes.specs.declared.Standing.the-variants.{In, Out}
 use Rattle.sheet.specs.declared.Call.{Call}
 use Rattle.sheet.specs.declared.Call.the-variants.{Change, Receive, Withdraw}
-use Rattle.classes.specs.declared.Standing.the-variants.{In, Out}
 use Rattle.machine.specs.Rows.{Row, whole, spoiled}
 use Rattle.lines.specs.declared.Order.{Order}
 use Rattle.lines.specs.declared.Order.the-variants.{Make, End, Unreadable}

@@ -11,8 +11,8 @@ use Rattle.times.specs.declared.Time.the-variants.{Value}
 use Rattle.times.specs.Texts.{Readable}
 use Rattle.times.specs.Places.{value}
 use Rattle.times.proofs.Settled.{read-settled}
-use Rattle.sheet.specs.declared.Call.the-variants.{Change}
 use Rattle.classes.specs.declared.Standing.the-variants.{In, Out}
+use Rattle.sheet.specs.declared.Call.the-variants.{Change}
 use Rattle.machine.specs.Rows.{Row}
 use Rattle.lines.specs.declared.Order.{Order}
 use Rattle.lines.specs.declared.Order.the-variants.{Make}

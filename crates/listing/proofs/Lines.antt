@@ -12,12 +12,12 @@ use Rattle.lists.specs.Lists.{Fits, Boxes, covered}
 use Rattle.lists.proofs.Count.{lines-sum}
 use Rattle.tables.specs.Tables.{entry, own, Sums}
 use Rattle.classes.specs.Standings.{isIn, isOut, isEither}
-use Rattle.sheet.specs.Record.{Record, inClass, notOut}
 use Rattle.classes.specs.Sound.{ClassSound}
-use Rattle.sheet.specs.Sound.{TimesSound, recordOf}
-use Rattle.sheet.specs.declared.Sheet.{Sheet}
 use Rattle.classes.specs.declared.Standing.{Standing}
 use Rattle.classes.specs.declared.Standing.the-variants.{In, Out, Either}
+use Rattle.sheet.specs.Record.{Record, inClass, notOut}
+use Rattle.sheet.specs.Sound.{TimesSound, recordOf}
+use Rattle.sheet.specs.declared.Sheet.{Sheet}
 use Rattle.sheet.proofs.Told.{either-nothing}
 use Rattle.listing.specs.Listing.{totalOf}
 

@@ -16,10 +16,10 @@ use Rattle.boxes.proofs.Boxes.{contains-combination}
 use Rattle.lists.specs.Lists.{covered}
 use Rattle.lists.proofs.Count.{covered-last}
 use Rattle.profiles.specs.declared.Profile.the-variants.{None}
-use Rattle.sheet.specs.Limits.{marksOk}
 use Rattle.classes.specs.Standings.{isIn, isOut, isEither}
-use Rattle.sheet.specs.Record.{Record, inClass, NoneEither}
 use Rattle.classes.specs.declared.Standing.the-variants.{In, Out}
+use Rattle.sheet.specs.Limits.{marksOk}
+use Rattle.sheet.specs.Record.{Record, inClass, NoneEither}
 use Rattle.stored.specs.Fields.{Outcome, good, refused}
 use Rattle.pla.specs.Texts.{wordsOf, linesOf}
 use Rattle.pla.specs.Sayings.{Saying, blank, inputs, output, count, cube, end, Says, no-word, dot-i, dot-o, dot-p, drawn, dot-e}

@@ -7,9 +7,9 @@ use lib.Dec.{eqb, ltb}
 use lib.ListN.{length}
 use Rattle.boxes.specs.Boxes.{contains}
 use Rattle.lists.specs.Lists.{covered}
+use Rattle.classes.specs.declared.Standing.the-variants.{In, Out}
 use Rattle.sheet.specs.Limits.{marksOk}
 use Rattle.sheet.specs.Record.{Record, opened, withStanding}
-use Rattle.classes.specs.declared.Standing.the-variants.{In, Out}
 use Rattle.stored.specs.Fields.{Outcome, good, refused}
 use Rattle.pla.specs.Texts.{linesOf, wordsOf}
 use Rattle.pla.specs.Sayings.{Saying, blank, inputs, output, count, cube, end, Says}

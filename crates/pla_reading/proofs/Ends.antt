@@ -13,10 +13,10 @@ use Rattle.tables.specs.Tables.{entry}
 use Rattle.lists.specs.Lists.{covered}
 use Rattle.sets.specs.Sets.{has, Outs}
 use Rattle.profiles.specs.declared.Profile.the-variants.{None}
-use Rattle.sheet.specs.Limits.{mostMarks, entries}
 use Rattle.classes.specs.Standings.{outs, eithers}
-use Rattle.sheet.specs.Record.{Record, outside-counts, either-counts, quantity, sheetFrom, sheetOf}
 use Rattle.classes.specs.declared.Standing.the-variants.{In, Out}
+use Rattle.sheet.specs.Limits.{mostMarks, entries}
+use Rattle.sheet.specs.Record.{Record, outside-counts, either-counts, quantity, sheetFrom, sheetOf}
 use Rattle.sheet.specs.Parts.{Addable}
 use Rattle.sheet.specs.declared.Sheet.{Sheet}
 use Rattle.sheet.proofs.Opening.{combinations-fit, same-entry, ones-addable, sheet-same}

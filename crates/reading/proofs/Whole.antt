@@ -13,13 +13,13 @@ use Rattle.boxes.proofs.Boxes.{sumIn-all}
 use Rattle.boxes.proofs.Sums.{sum-zero, sum-ext, only-le}
 use Rattle.tables.specs.Tables.{entry}
 use Rattle.profiles.specs.declared.Profile.{Profile}
-use Rattle.sheet.specs.Limits.{mostMarks, entries, marksOk}
 use Rattle.classes.specs.Standings.{isIn, isEither, outs, eithers}
+use Rattle.classes.specs.declared.Standing.{Standing}
+use Rattle.classes.specs.declared.Standing.the-variants as standing
+use Rattle.sheet.specs.Limits.{mostMarks, entries, marksOk}
 use Rattle.sheet.specs.Record.{Record, withProfile, opened, sheetFrom}
 use Rattle.sheet.specs.Parts.{Addable}
 use Rattle.sheet.specs.declared.Sheet.{Sheet}
-use Rattle.classes.specs.declared.Standing.{Standing}
-use Rattle.classes.specs.declared.Standing.the-variants as standing
 use Rattle.sheet.proofs.Opening.{sheet-same, ones-addable, combinations-fit}
 use Rattle.stored.specs.declared.Layout.{Layout}
 use Rattle.stored.specs.declared.Layout.the-variants.{First, Today}

@@ -9,8 +9,8 @@ use Rattle.tables.specs.Tables.{entry}
 use Rattle.profiles.specs.Profiles.{breaks}
 use Rattle.profiles.specs.declared.Profile.{Profile}
 use Rattle.profiles.specs.declared.Profile.the-variants.{None}
-use Rattle.sheet.specs.Limits.{mostMarks}
 use Rattle.classes.specs.Standings.{isEither}
+use Rattle.sheet.specs.Limits.{mostMarks}
 use Rattle.sheet.specs.Record.{Record, withProfile}
 use Rattle.stored.specs.Fields.{Next, due, group, perhaps, complete, end, groupsDue, refused, Run}
 use Rattle.stored.specs.declared.Section.the-variants.{Either}

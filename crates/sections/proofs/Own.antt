@@ -13,11 +13,11 @@ use Rattle.ground.proofs.Cases.{below-or}
 use Rattle.boxes.specs.Sums.{only}
 use Rattle.boxes.proofs.Sums.{only-zero}
 use Rattle.tables.specs.Tables.{entry}
-use Rattle.sheet.specs.Limits.{mostHeld}
 use Rattle.classes.specs.Standings.{isIn, isEither}
-use Rattle.sheet.specs.Record.{Record, withStanding, withTimes}
 use Rattle.classes.specs.declared.Standing.{Standing}
 use Rattle.classes.specs.declared.Standing.the-variants as standing
+use Rattle.sheet.specs.Limits.{mostHeld}
+use Rattle.sheet.specs.Record.{Record, withStanding, withTimes}
 use Rattle.stored.specs.Sections.{bytesBehind, standsIn, takes, mayStand, added}
 use Rattle.stored.specs.declared.Section.{Section}
 use Rattle.stored.specs.declared.Section.the-variants.{Class, Either, Held}

@@ -7,9 +7,9 @@ use lib.Dec.{eqb, ltb}
 use lib.ListN.{length, take, drop}
 use Rattle.boxes.specs.Sums.{only}
 use Rattle.tables.specs.Tables.{entry}
+use Rattle.classes.specs.declared.Standing.the-variants as standing
 use Rattle.sheet.specs.Limits.{mostMarks, mostHeld}
 use Rattle.sheet.specs.Record.{Record, withStanding, withTimes}
-use Rattle.classes.specs.declared.Standing.the-variants as standing
 use Rattle.stored.specs.Sections.{Rest, standsIn, takes, heldIn}
 use Rattle.stored.specs.Fields.{numberIn, Next, due, count, restDue, entriesDue, Outcome, refused, Run}
 use Rattle.stored.specs.declared.Section.{Section}

@@ -15,13 +15,13 @@ use Rattle.tables.specs.Tables.{entry, own, fitsShifted, touched, moved}
 use Rattle.tables.proofs.Shifts.{moved-same, moved-above}
 use Rattle.tables.proofs.Touched.{touched-ext}
 use Rattle.profiles.specs.declared.Profile.{Profile}
+use Rattle.classes.specs.declared.Standing.{Standing}
+use Rattle.classes.specs.Standings.{outs, eithers}
 use Rattle.sheet.specs.declared.Call.{Call}
 use Rattle.sheet.specs.declared.Call.the-variants.{Change, Receive, Withdraw}
 use Rattle.sheet.specs.declared.Move.{Move}
 use Rattle.sheet.specs.declared.Sheet.{Sheet}
-use Rattle.classes.specs.declared.Standing.{Standing}
 use Rattle.sheet.specs.Limits.{mostMarks, entries, marksOk, mostHeld}
-use Rattle.classes.specs.Standings.{outs, eithers}
 use Rattle.sheet.specs.Record.{Table, outside-counts, either-counts, held-seconds, kept, sheetWith}
 use Rattle.sheet.specs.Calls.{answered, between, changeMove, fitsCount, fitsAmount, changeNo, amountNo, moveOf, shiftIn, movedSheet, numberOn, didOf}
 use Rattle.sheet.specs.Promises.{Long, Agree, Alike, AboveKept}

@@ -10,13 +10,13 @@ use Rattle.boxes.specs.Boxes.{sumIn, single, allFree}
 use Rattle.boxes.proofs.Choices.{through-lt}
 use Rattle.tables.specs.Tables.{entry, own, Sums}
 use Rattle.profiles.specs.declared.Profile.{Profile}
-use Rattle.sheet.specs.declared.Sheet.{Sheet}
 use Rattle.classes.specs.declared.Standing.the-variants.{Out, Either}
+use Rattle.classes.specs.Sound.{CountsSound, ClassSound}
+use Rattle.classes.specs.Standings.{tells, toldBy}
+use Rattle.sheet.specs.declared.Sheet.{Sheet}
 use Rattle.sheet.specs.declared.Value.{Value}
 use Rattle.sheet.specs.Limits.{marksOk}
 use Rattle.sheet.specs.Record.{Record, inClass, Table, outside-counts, either-counts, held-seconds, kept}
-use Rattle.classes.specs.Sound.{CountsSound, ClassSound}
-use Rattle.classes.specs.Standings.{tells, toldBy}
 use Rattle.sheet.specs.Sound.{TimesSound, ClassReady, Ready, recordOf, sizeOf}
 use Rattle.sheet.specs.Calls.{ClassSize}
 use Rattle.sheet.specs.Promises.{Agree}

@@ -13,11 +13,11 @@ use Rattle.ground.proofs.Cases.{mark}
 use Rattle.boxes.proofs.Sums.{sum-ext, sum-add, sum-ones}
 use Rattle.tables.specs.Tables.{entry, own, Sums}
 use Rattle.classes.specs.Standings.{isIn, toldBy}
-use Rattle.sheet.specs.Record.{inClass}
 use Rattle.classes.specs.Sound.{CountsSound}
+use Rattle.classes.specs.declared.Standing.the-variants.{Out}
+use Rattle.sheet.specs.Record.{inClass}
 use Rattle.sheet.specs.Sound.{recordOf, sizeOf}
 use Rattle.sheet.specs.declared.Sheet.{Sheet}
-use Rattle.classes.specs.declared.Standing.the-variants.{Out}
 
 in-or-counted : (o e : ℕ) → o + e ≤ 1 → only (isIn (toldBy o e)) 1 + o + e ≡ 1
 in-or-counted o e l =

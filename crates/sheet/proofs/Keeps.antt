@@ -19,17 +19,17 @@ use Rattle.tables.proofs.Shifts.{own-shifts, shifted-sums}
 use Rattle.profiles.specs.Profiles.{breaks, profileOk, countOk, profileOf, namesOk}
 use Rattle.profiles.specs.declared.Profile.{Profile}
 use Rattle.profiles.specs.declared.Profile.the-variants.{None}
+use Rattle.classes.specs.declared.Standing.{Standing}
+use Rattle.classes.specs.declared.Standing.the-variants.{Either}
+use Rattle.classes.specs.Standings.{isEither, outs, eithers, tells}
+use Rattle.classes.specs.Sound.{CountsSound, ClassSound}
 use Rattle.sheet.specs.declared.Call.{Call}
 use Rattle.sheet.specs.declared.Call.the-variants.{Change, Receive, Withdraw}
 use Rattle.sheet.specs.declared.Move.{Move}
 use Rattle.sheet.specs.declared.Sheet.{Sheet}
-use Rattle.classes.specs.declared.Standing.{Standing}
-use Rattle.classes.specs.declared.Standing.the-variants.{Either}
 use Rattle.sheet.specs.declared.Answer.{Answer}
 use Rattle.sheet.specs.Limits.{marksOk, mostMarks, mostHeld, entries}
-use Rattle.classes.specs.Standings.{isEither, outs, eithers, tells}
 use Rattle.sheet.specs.Record.{Table, outside-counts, either-counts, held-seconds, kept, sheetOf, openedUnder}
-use Rattle.classes.specs.Sound.{CountsSound, ClassSound}
 use Rattle.sheet.specs.Sound.{ownIn, TimesSound, ClassReady, Ready}
 use Rattle.sheet.specs.Calls.{openOf, openUnderOf, between, amountShift, amountMove, moveOf, shiftIn, movedSheet, numberOn, didOf}
 use Rattle.sheet.specs.Promises.{Long}

@@ -10,15 +10,15 @@ use Rattle.boxes.specs.Sums.{sum}
 use Rattle.boxes.proofs.Boxes.{sumIn-all}
 use Rattle.tables.specs.Tables.{entry, own, afresh}
 use Rattle.tables.proofs.Entries.{afresh-own, afresh-sums, afresh-entry}
+use Rattle.classes.specs.Standings.{is, isEither, outs, eithers, tells, toldBy}
+use Rattle.classes.specs.Sound.{CountsSound, ClassSound}
+use Rattle.classes.specs.declared.Standing.{Standing}
+use Rattle.classes.specs.declared.Standing.the-variants.{In, Out, Either}
 use Rattle.sheet.specs.Limits.{mostHeld}
 use Rattle.profiles.specs.Profiles.{profileOk}
 use Rattle.profiles.specs.declared.Profile.{Profile}
-use Rattle.classes.specs.Standings.{is, isEither, outs, eithers, tells, toldBy}
 use Rattle.sheet.specs.Record.{Record, Obeys, openedUnder, quantity, outside-counts, either-counts, sheetOf}
-use Rattle.classes.specs.Sound.{CountsSound, ClassSound}
 use Rattle.sheet.specs.Sound.{TimesSound}
-use Rattle.classes.specs.declared.Standing.{Standing}
-use Rattle.classes.specs.declared.Standing.the-variants.{In, Out, Either}
 
 -- what a combination of a standing adds tells the standing
 

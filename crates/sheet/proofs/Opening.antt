@@ -13,8 +13,8 @@ use Rattle.tables.specs.Tables.{entry, afresh}
 use Rattle.tables.proofs.Entries.{afresh-ext}
 use Rattle.profiles.specs.Profiles.{breaks}
 use Rattle.profiles.specs.declared.Profile.{Profile}
-use Rattle.sheet.specs.declared.Sheet.{Sheet}
 use Rattle.classes.specs.declared.Standing.the-variants.{Out, Either}
+use Rattle.sheet.specs.declared.Sheet.{Sheet}
 use Rattle.sheet.specs.Record.{openedUnder, sheetFrom, sheetWith}
 use Rattle.sheet.specs.Parts.{Addable}
 

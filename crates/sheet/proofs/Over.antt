@@ -4,8 +4,8 @@ use mathlib.Core.Bool.{true}
 use mathlib.Core.Path.{_≡_}
 use native.Mathlib.Nat.{pow-le-pow-right}
 use native.Mathlib.Omega.{arith}
-use Rattle.sheet.specs.Limits.{mostMarks, entries, marksOk}
 use Rattle.classes.specs.Parts.{TableOver}
+use Rattle.sheet.specs.Limits.{mostMarks, entries, marksOk}
 use Rattle.sheet.specs.Promises.{Long}
 use Rattle.sheet.specs.Record.{Table, kept}
 use Rattle.sheet.specs.declared.Sheet.{Sheet}

@@ -17,8 +17,10 @@ use Rattle.tables.specs.Tables.{entry, fitsShifted, touched}
 use Rattle.profiles.specs.Profiles.{settles}
 use Rattle.tables.specs.Parts.{Bears, AllBear, fitsMoved}
 use Rattle.tables.proofs.Touched.{touched-at}
-use Rattle.sheet.specs.Limits.{marksOk, amountOk, mostHeld, mostMarks, entries}
 use Rattle.classes.specs.Standings.{isEither, outs, eithers, tells}
+use Rattle.classes.specs.declared.Standing.{Standing}
+use Rattle.classes.specs.declared.Standing.the-variants.{Either}
+use Rattle.sheet.specs.Limits.{marksOk, amountOk, mostHeld, mostMarks, entries}
 use Rattle.sheet.specs.Record.{Table, outside-counts, either-counts, held-seconds, kept}
 use Rattle.sheet.specs.Sound.{ownIn}
 use Rattle.sheet.specs.Calls.{amountShift, amountMove, moveOf, shiftIn, fitsCount, countsFit, fitsAmount, changeNo, amountNo, numberOn}
@@ -27,8 +29,6 @@ use Rattle.sheet.specs.Parts.{mostKept, SmallAmount, Accepted}
 use Rattle.sheet.specs.declared.Call.{Call}
 use Rattle.sheet.specs.declared.Call.the-variants.{Change, Receive, Withdraw}
 use Rattle.sheet.specs.declared.Sheet.{Sheet}
-use Rattle.classes.specs.declared.Standing.{Standing}
-use Rattle.classes.specs.declared.Standing.the-variants.{Either}
 use Rattle.sheet.proofs.Between.{between-some, between-moves}
 
 -- marks and amounts in range

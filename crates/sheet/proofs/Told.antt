@@ -8,12 +8,12 @@ use lib.Dec.{eqb, ltb}
 use borrow.Author.Tests.{ltb-true, eqb-true, eqb-false, not-true}
 use Rattle.ground.proofs.Cases.{and-left, and-right}
 use Rattle.classes.specs.Standings.{isIn, isOut, isEither}
-use Rattle.sheet.specs.Record.{Record, inClass, notOut, outside-counts, either-counts}
 use Rattle.classes.specs.Sound.{CountsSound}
-use Rattle.sheet.specs.Sound.{ownIn, TimesSound, recordOf}
-use Rattle.sheet.specs.declared.Sheet.{Sheet}
 use Rattle.classes.specs.declared.Standing.{Standing}
 use Rattle.classes.specs.declared.Standing.the-variants.{In, Out, Either}
+use Rattle.sheet.specs.Record.{Record, inClass, notOut, outside-counts, either-counts}
+use Rattle.sheet.specs.Sound.{ownIn, TimesSound, recordOf}
+use Rattle.sheet.specs.declared.Sheet.{Sheet}
 
 -- of any record: what a list must cover it may cover
 

@@ -9,16 +9,16 @@ use Rattle.tables.specs.declared.Shift.{Shift}
 use Rattle.tables.specs.declared.Shift.the-variants.{Stays, Up, Down}
 use Rattle.tables.specs.Tables.{entry, moved, fitsShifted, touched}
 use Rattle.profiles.specs.Profiles.{settles, profileOf, namesOk}
-use Rattle.sheet.specs.Limits.{marksOk, amountOk, mostHeld}
 use Rattle.classes.specs.Standings.{isEither, outs, eithers, tells}
+use Rattle.classes.specs.declared.Standing.{Standing}
+use Rattle.classes.specs.declared.Standing.the-variants.{Either}
+use Rattle.sheet.specs.Limits.{marksOk, amountOk, mostHeld}
 use Rattle.sheet.specs.Record.{Table, outside-counts, either-counts, held-seconds, sheetWith, sheetOf, openedUnder, opened, inClass}
 use Rattle.sheet.specs.Sound.{ownIn, ClassReady, recordOf, sizeOf}
 use Rattle.sheet.specs.declared.Call.{Call}
 use Rattle.sheet.specs.declared.Call.the-variants.{Change, Receive, Withdraw}
 use Rattle.sheet.specs.declared.Move.{Move}
 use Rattle.sheet.specs.declared.Sheet.{Sheet}
-use Rattle.classes.specs.declared.Standing.{Standing}
-use Rattle.classes.specs.declared.Standing.the-variants.{Either}
 use Rattle.sheet.specs.declared.Answer.{Answer}
 use Rattle.sheet.specs.declared.Value.{Value}
 

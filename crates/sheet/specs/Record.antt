@@ -10,10 +10,10 @@ use Rattle.tables.specs.Tables.{afresh}
 use Rattle.profiles.specs.Profiles.{breaks}
 use Rattle.profiles.specs.declared.Profile.{Profile}
 use Rattle.profiles.specs.declared.Profile.the-variants.{None}
-use Rattle.sheet.specs.declared.Sheet.{Sheet}
 use Rattle.classes.specs.Standings.{isIn, isOut, isEither, outs, eithers}
 use Rattle.classes.specs.declared.Standing.{Standing}
 use Rattle.classes.specs.declared.Standing.the-variants.{Out, Either}
+use Rattle.sheet.specs.declared.Sheet.{Sheet}
 
 pub record Record : Type 0 where
   pub marks : ℕ

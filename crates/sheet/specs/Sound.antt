@@ -7,12 +7,12 @@ use lib.Dec.{ltb}
 use Rattle.boxes.specs.Boxes.{allFree}
 use Rattle.boxes.specs.Sums.{sum, only}
 use Rattle.tables.specs.Tables.{entry, own, Sums}
-use Rattle.sheet.specs.Limits.{mostHeld, marksOk}
 use Rattle.classes.specs.Standings.{toldBy}
 use Rattle.classes.specs.Sound.{ClassSound, Apart}
+use Rattle.classes.specs.declared.Standing.the-variants.{Out}
+use Rattle.sheet.specs.Limits.{mostHeld, marksOk}
 use Rattle.sheet.specs.Record.{Record, Table, kept, outside-counts, either-counts}
 use Rattle.sheet.specs.declared.Sheet.{Sheet}
-use Rattle.classes.specs.declared.Standing.the-variants.{Out}
 
 -- the own number of a combination in a table
 abbrev pub ownIn : Table → Sheet → ℕ → ℕ

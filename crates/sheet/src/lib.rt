@@ -6,13 +6,13 @@ ghost use mathlib.Core.Bool.{cond};
 ghost use Rattle.ground.specs.Decides.{Decides};
 ghost use Rattle.tables.specs.Tables.{entry, afresh};
 ghost use Rattle.profiles.specs.Profiles.{breaks};
+ghost use Rattle.classes.specs.declared.Standing.the-variants.{In, Out, Either};
 ghost use Rattle.sheet.specs.Limits.{mostMarks, entries, mostHeld, mostAmount};
 ghost use Rattle.sheet.specs.Record.{sheetFrom, sheetOf, openedUnder, opened, inClass};
 ghost use Rattle.sheet.specs.Calls.{refusedOpening, openOf, openUnderOf, movedSheet, didOf, ClassSize};
 ghost use Rattle.sheet.specs.Parts.{Accepted, Addable};
 ghost use Rattle.sheet.specs.Sound.{ClassReady, Ready, recordOf, sizeOf};
 ghost use Rattle.sheet.specs.declared.Call.the-variants.{Change, Receive, Withdraw};
-ghost use Rattle.classes.specs.declared.Standing.the-variants.{In, Out, Either};
 
 mod moves;
 mod numbers;

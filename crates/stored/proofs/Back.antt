@@ -15,12 +15,12 @@ use Rattle.boxes.proofs.Sums.{sum-change, sum-le, sum-term, only-le}
 use Rattle.ground.proofs.Cases.{if, clash, below-or}
 use Rattle.profiles.specs.declared.Profile.{Profile}
 use Rattle.profiles.specs.declared.Profile.the-variants.{None}
-use Rattle.sheet.specs.Limits.{mostHeld}
 use Rattle.classes.specs.Standings.{isIn, isEither}
-use Rattle.sheet.specs.Record.{Record, opened, withStanding, withProfile, withTimes, Obeys}
-use Rattle.sheet.specs.Sound.{sizeOf}
 use Rattle.classes.specs.declared.Standing.{Standing}
 use Rattle.classes.specs.declared.Standing.the-variants as standing
+use Rattle.sheet.specs.Limits.{mostHeld}
+use Rattle.sheet.specs.Record.{Record, opened, withStanding, withProfile, withTimes, Obeys}
+use Rattle.sheet.specs.Sound.{sizeOf}
 use Rattle.sheet.proofs.Tests.{marks-most}
 use Rattle.stored.specs.Sections.{Rest, nothing, profile, more, sections, bytesBehind, standsIn, numberBehind, takes, heldIn, mayStand, added}
 use Rattle.stored.specs.Fields.{marks, count as count-due, combination, behind, due, restDue, entriesDue, judge, Outcome, good, Run, done, ReadingBy}

@@ -16,10 +16,10 @@ use Rattle.ground.proofs.Cases.{below-or, and-left, and-right}
 use Rattle.profiles.specs.Profiles.{profileOk}
 use Rattle.profiles.specs.declared.Profile.{Profile}
 use Rattle.profiles.specs.declared.Profile.the-variants.{None}
-use Rattle.sheet.specs.Limits.{marksOk, mostHeld}
 use Rattle.classes.specs.Standings.{isEither}
-use Rattle.sheet.specs.Record.{Record, withProfile, Obeys, opened}
 use Rattle.classes.specs.declared.Standing.the-variants.{Out}
+use Rattle.sheet.specs.Limits.{marksOk, mostHeld}
+use Rattle.sheet.specs.Record.{Record, withProfile, Obeys, opened}
 use Rattle.stored.specs.Sections.{Rest, nothing, profile, more, sections, bytesBehind, standsIn, numberBehind, takes, heldIn, mayStand, added}
 use Rattle.stored.specs.Fields.{Bytes, numberIn, behind, due, perhaps, restDue, entriesDue, judge, good, Run, ReadingBy}
 use Rattle.stored.specs.Form.{bytes, listed, entryOf, section, restOf, formBy}

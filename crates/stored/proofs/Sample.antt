@@ -7,9 +7,9 @@ use native.Mathlib.Omega.{arith}
 use lib.Dec.{eqb, ltb}
 use Rattle.boxes.specs.Sums.{sum}
 use Rattle.ground.proofs.Cases.{clash}
-use Rattle.sheet.specs.Limits.{mostMarks, entries, marksOk}
 use Rattle.classes.specs.Standings.{isEither}
 use Rattle.classes.specs.declared.Standing.the-variants.{In, Out}
+use Rattle.sheet.specs.Limits.{mostMarks, entries, marksOk}
 use Rattle.stored.specs.declared.Read.{Read}
 use Rattle.stored.specs.Fields.{good}
 use Rattle.stored.specs.Answers.{readOf, Reads}

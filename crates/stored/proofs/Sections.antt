@@ -9,10 +9,10 @@ use lib.Dec.{leb, ltb}
 use borrow.Author.Tests.{leb-true, ltb-false, lt-ltb, not-true}
 use Rattle.boxes.proofs.Sums.{sum-change}
 use Rattle.ground.proofs.Cases.{clash, same-or, and-left, and-right}
-use Rattle.sheet.specs.Limits.{mostHeld}
 use Rattle.classes.specs.Standings.{isIn, isEither}
-use Rattle.sheet.specs.Record.{Record, updated, opened}
 use Rattle.classes.specs.declared.Standing.the-variants as standing
+use Rattle.sheet.specs.Limits.{mostHeld}
+use Rattle.sheet.specs.Record.{Record, updated, opened}
 use Rattle.stored.specs.Sections.{Rest, nothing, profile, more, sections, bytesBehind, standsIn, numberBehind, takes, heldIn, mayStand, added}
 use Rattle.stored.specs.Form.{bytes, entryOf}
 use Rattle.stored.specs.declared.Layout.{Layout}

@@ -16,11 +16,11 @@ use Rattle.ground.proofs.Cases.{clash, below-or, mark, and-left, and-right}
 use Rattle.tables.specs.Tables.{own}
 use Rattle.tables.proofs.Entries.{afresh-own}
 use Rattle.profiles.specs.declared.Profile.{Profile}
-use Rattle.sheet.specs.Limits.{marksOk}
 use Rattle.classes.specs.Standings.{isEither, outs, eithers, tells, toldBy}
+use Rattle.classes.specs.declared.Standing.the-variants as standing
+use Rattle.sheet.specs.Limits.{marksOk}
 use Rattle.sheet.specs.Record.{outside-counts, either-counts, Record, Obeys, sheetOf, opened}
 use Rattle.sheet.specs.Sound.{Ready, sizeOf, ownIn, recordOf}
-use Rattle.classes.specs.declared.Standing.the-variants as standing
 use Rattle.sheet.specs.declared.Sheet.{Sheet}
 use Rattle.sheet.specs.declared.Value.{Value}
 use Rattle.sheet.proofs.Tests.{marks-most}

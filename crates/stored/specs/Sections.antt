@@ -3,10 +3,10 @@ use Prim.Native.Nat.{ℕ, _+_, _^_}
 use mathlib.Core.Bool.{Bool, true, not, _&&_}
 use lib.Dec.{leb, ltb}
 use Rattle.boxes.specs.Sums.{sum}
-use Rattle.sheet.specs.Limits.{mostHeld}
 use Rattle.classes.specs.Standings.{isIn, isEither}
-use Rattle.sheet.specs.Record.{Record, withStanding, withTimes, updated}
 use Rattle.classes.specs.declared.Standing.the-variants as standing
+use Rattle.sheet.specs.Limits.{mostHeld}
+use Rattle.sheet.specs.Record.{Record, withStanding, withTimes, updated}
 use Rattle.stored.specs.declared.Layout.{Layout}
 use Rattle.stored.specs.declared.Layout.the-variants.{First, Today}
 use Rattle.stored.specs.declared.Section.{Section}

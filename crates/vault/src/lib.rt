@@ -1,12 +1,12 @@
 // The library for C programs: include/vault.h says what each entry does. An entry reads the lent sheet, makes one call on it, and writes what is left.
 ghost use mathlib.Core.Path.{_≡_};
 ghost use Rattle.tables.specs.Tables.{entry};
+ghost use Rattle.classes.specs.declared.Standing.the-variants.{In, Out, Either};
 ghost use Rattle.sheet.specs.Limits.{mostMarks, entries};
 ghost use Rattle.sheet.specs.Record.{outside-counts, either-counts, held-seconds};
 ghost use Rattle.sheet.specs.Sound.{ClassReady, Ready};
 ghost use Rattle.sheet.specs.Calls.{openOf, openUnderOf, didOf, ClassSize};
 ghost use Rattle.sheet.specs.declared.Call.the-variants.{Change, Receive, Withdraw};
-ghost use Rattle.classes.specs.declared.Standing.the-variants.{In, Out, Either};
 ghost use Rattle.stored.specs.Answers.{ReadsBy};
 ghost use Rattle.stored.specs.declared.Layout.the-variants.{First};
 ghost use Rattle.listing.specs.Listing.{Listed, Totalled};

@@ -19,8 +19,8 @@ use Rattle.boxes.specs.Sums.{sum, only}
 use Rattle.boxes.proofs.Sums.{sum-ext}
 use Rattle.tables.specs.Tables.{entry, own}
 use Rattle.classes.specs.Standings.{isIn, isEither, toldBy}
-use Rattle.sheet.specs.Sound.{Ready, sizeOf, recordOf}
 use Rattle.classes.specs.declared.Standing.the-variants as standing
+use Rattle.sheet.specs.Sound.{Ready, sizeOf, recordOf}
 use Rattle.sheet.specs.declared.Sheet.{Sheet}
 use Rattle.sheet.proofs.Opening.{combinations-fit}
 use Rattle.stored.specs.Sections.{bytesBehind, standsIn}

@@ -4,8 +4,8 @@ use mathlib.Core.Path.{_≡_, refl, sym, _∙_, ap}
 use native.Mathlib.Omega.{arith}
 use borrow.Author.Needs.{needs}
 use Rattle.ground.proofs.Filled.{Filled, filled-none, filled-more}
-use Rattle.sheet.specs.Limits.{entries}
 use Rattle.classes.specs.Standings.{outs, eithers}
+use Rattle.sheet.specs.Limits.{entries}
 use Rattle.sheet.specs.Record.{openedUnder, quantity, outside-counts, either-counts}
 use Rattle.sheet.proofs.Kept.{adds-one}
 use Rattle.sheet.proofs.Opening.{combinations-fit, same-entry, same-addable, ones-addable, opened-low, sheet-same}

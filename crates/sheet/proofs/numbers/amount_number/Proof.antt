@@ -11,12 +11,12 @@ use Rattle.tables.specs.Tables.{entry, own, touched}
 use Rattle.tables.specs.Parts.{fitsMoved}
 use Rattle.tables.proofs.Touched.{touched-ext}
 use Rattle.profiles.specs.declared.Profile.{Profile}
+use Rattle.classes.specs.Standings.{tells}
+use Rattle.classes.specs.declared.Standing.the-variants.{Either}
 use Rattle.sheet.specs.Limits.{marksOk, amountOk, mostMarks}
 use Rattle.sheet.specs.Record.{sheetWith}
-use Rattle.classes.specs.Standings.{tells}
 use Rattle.sheet.specs.Calls.{fitsAmount, amountNo}
 use Rattle.sheet.specs.declared.Sheet.{Sheet}
-use Rattle.classes.specs.declared.Standing.the-variants.{Either}
 use Rattle.sheet.proofs.Tests.{marks-most, boxes-fit, amount-most, amount-7, amount-2, amount-4, amount-12, amount-last, amount-0, amount-bounds, top-small}
 use Rattle.sheet.proofs.numbers.amount_number.Statement.{statement}
 use Rattle.sheet.proofs.numbers.amount_number.Tie as tie

@@ -9,8 +9,8 @@ use borrow.Author.Tests.{not-true, not-false}
 use borrow.Author.Needs.{needs}
 use Rattle.tables.specs.Tables.{entry, own}
 use Rattle.profiles.specs.Profiles.{settles}
-use Rattle.sheet.specs.Limits.{marksOk, mostMarks}
 use Rattle.classes.specs.Standings.{isEither, tells}
+use Rattle.sheet.specs.Limits.{marksOk, mostMarks}
 use Rattle.sheet.specs.Record.{sheetWith}
 use Rattle.sheet.specs.Calls.{countsFit}
 use Rattle.sheet.specs.declared.Sheet.{Sheet}

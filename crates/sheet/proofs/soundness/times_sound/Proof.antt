@@ -10,8 +10,8 @@ use Rattle.ground.specs.Decides.{Decides}
 use Rattle.ground.proofs.Cases.{decided-no, decided-both, denied}
 use Rattle.boxes.specs.Boxes.{allFree}
 use Rattle.tables.specs.Tables.{entry}
-use Rattle.sheet.specs.Limits.{mostHeld}
 use Rattle.classes.specs.Sound.{Apart}
+use Rattle.sheet.specs.Limits.{mostHeld}
 use Rattle.sheet.proofs.soundness.times_sound.Statement.{statement}
 use Rattle.sheet.proofs.soundness.times_sound.Tie as tie
 
