@@ -28,6 +28,7 @@ pub record Refuses (r : Told) (before after : Lent) : Type 0 where
 
 pub record Demand1 : Type 0 where
   pub every-call : {r : Told} {before after : Lent} → Made r before after → Refuses r before after
+  -- no call answers the number that is not used
   pub no-six : {r : Told} {before after : Lent} → Made r before after → r .answer ≡ 6 → ⊥
   -- a refused opening, or a refused read, gives the sheet of an opened one-mark class
   pub opening : (m : ℕ) → (openOf mostMarks entries m .number ≡ 0 → ⊥) → openOf mostMarks entries m .sheet ≡ sheetOf entries (opened 1)
