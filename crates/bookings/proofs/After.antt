@@ -6,7 +6,7 @@ use borrow.Author.Tests.{eq-eqb, ne-eqb}
 use Rattle.ground.proofs.Cases.{if, same-or}
 use Rattle.dates.specs.declared.date.Date.{Date}
 use Rattle.sheet.specs.Record.{Record}
-use Rattle.sheet.specs.declared.Call.{Call}
+use Rattle.changes.specs.declared.Call.{Call}
 use Rattle.histories.specs.Histories.{numberOf, accepted, after}
 use Rattle.bookings.specs.Bookings.{Booking, undated, on, History, recordNow, lastDate, dateOk, bookingNumber, withBooking, afterBooking}
 use Rattle.bookings.specs.Months.{Kept}

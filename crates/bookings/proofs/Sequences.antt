@@ -6,8 +6,8 @@ use mathlib.Core.List.{List, [], _∷_, _++_}
 use lib.ListN.{length, replicate}
 use borrow.Author.Tests.{eq-eqb}
 use Rattle.sheet.specs.Record.{Record}
-use Rattle.sheet.specs.declared.Call.{Call}
-use Rattle.sheet.specs.declared.Call.the-variants.{Change, Receive, Withdraw}
+use Rattle.changes.specs.declared.Call.{Call}
+use Rattle.changes.specs.declared.Call.the-variants.{Change, Receive, Withdraw}
 use Rattle.histories.specs.Histories.{Good, numberOf, accepted, after, afterAll, numbersOf}
 use Rattle.histories.proofs.Goods.{good-accepted}
 use Rattle.bookings.specs.Months.{Accepts, none, call}

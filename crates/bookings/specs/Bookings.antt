@@ -6,7 +6,7 @@ use lib.Dec.{eqb}
 use Rattle.dates.specs.Gregorian.{isDay, earlier, lastDay}
 use Rattle.dates.specs.declared.date.Date.{Date}
 use Rattle.sheet.specs.Record.{Record, opened}
-use Rattle.sheet.specs.declared.Call.{Call}
+use Rattle.changes.specs.declared.Call.{Call}
 use Rattle.listing.specs.Listing.{totalOf}
 use Rattle.histories.specs.Histories.{numberOf, accepted, afterAll}
 

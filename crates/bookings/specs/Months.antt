@@ -4,7 +4,7 @@ use mathlib.Core.Path.{_≡_}
 use mathlib.Core.List.{List, [], _∷_}
 use Rattle.dates.specs.Gregorian.{lastDay}
 use Rattle.sheet.specs.Record.{Record, opened}
-use Rattle.sheet.specs.declared.Call.{Call}
+use Rattle.changes.specs.declared.Call.{Call}
 use Rattle.histories.specs.Histories.{Good, numberOf, accepted}
 use Rattle.bookings.specs.Bookings.{History, calls, any, upTo, lastDate}
 

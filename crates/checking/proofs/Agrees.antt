@@ -3,7 +3,7 @@ use Prim.Native.Nat.{ℕ}
 use mathlib.Core.Path.{subst}
 use mathlib.Core.List.{List}
 use Rattle.sheet.specs.Record.{Record}
-use Rattle.sheet.specs.Promises.{Agree}
+use Rattle.sheet.specs.Entries.{Agree}
 use Rattle.sheet.specs.declared.Sheet.{Sheet}
 use Rattle.sheet.proofs.Agrees.{agree-back, record-same, class-ready-same}
 use Rattle.checking.specs.declared.Finding.{Finding}

@@ -15,14 +15,14 @@ use Rattle.classes.specs.declared.Standing.the-variants.{In, Out, Either}
 use Rattle.sheet.specs.Limits.{mostMarks, entries}
 use Rattle.sheet.specs.Record.{Record, inClass, notOut, Obeys, openedUnder}
 use Rattle.sheet.specs.Sound.{Ready}
-use Rattle.sheet.specs.Calls.{changeNo, amountNo}
 use Rattle.sheet.specs.declared.Answer.{Answer}
-use Rattle.sheet.specs.declared.Call.{Call}
-use Rattle.sheet.specs.declared.Call.the-variants.{Change, Receive, Withdraw}
 use Rattle.sheet.specs.declared.Sheet.{Sheet}
 use Rattle.sheet.proofs.Answers.{open-under-refused, open-under-faulty, open-under-done}
 use Rattle.sheet.proofs.Opening.{opened-low}
-use Rattle.sheet.proofs.Tests.{change-2, change-settled}
+use Rattle.changes.specs.Calls.{changeNo, amountNo}
+use Rattle.changes.specs.declared.Call.{Call}
+use Rattle.changes.specs.declared.Call.the-variants.{Change, Receive, Withdraw}
+use Rattle.changes.proofs.Tests.{change-2, change-settled}
 use Rattle.stored.proofs.IsForm.{is-form}
 use Rattle.stored.specs.declared.Layout.the-variants.{First}
 use Rattle.pla.proofs.Drawings.{drawn-profile}

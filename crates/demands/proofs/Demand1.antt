@@ -16,13 +16,14 @@ use Rattle.classes.specs.declared.Standing.the-variants.{Either}
 use Rattle.sheet.specs.Limits.{mostMarks, entries, marksOk, amountOk}
 use Rattle.sheet.specs.Record.{Table, outside-counts, either-counts, held-seconds, sheetOf, openedUnder, opened}
 use Rattle.sheet.specs.Sound.{ownIn}
-use Rattle.sheet.specs.Calls.{openOf, openUnderOf, countsFit, fitsAmount, changeNo, amountNo, numberOn, didOf, moveOf, movedSheet, ClassSize}
-use Rattle.sheet.specs.declared.Call.{Call}
-use Rattle.sheet.specs.declared.Call.the-variants.{Change, Receive, Withdraw}
+use Rattle.sheet.specs.Answers.{openOf, openUnderOf, ClassSize}
 use Rattle.sheet.specs.declared.Sheet.{Sheet}
 use Rattle.sheet.specs.declared.Answer.{Answer}
 use Rattle.sheet.specs.declared.Value.{Value}
 use Rattle.sheet.proofs.Answers.{open-done, open-refused, open-under-done, open-under-faulty, open-under-refused}
+use Rattle.changes.specs.Calls.{countsFit, fitsAmount, changeNo, amountNo, numberOn, didOf, moveOf, movedSheet}
+use Rattle.changes.specs.declared.Call.{Call}
+use Rattle.changes.specs.declared.Call.the-variants.{Change, Receive, Withdraw}
 use Rattle.listing.specs.Listing.{Listed, Totalled}
 use Rattle.stored.specs.Fields.{marks, due, Outcome, good, refused, Run}
 use Rattle.stored.specs.Answers.{readOf, ReadBy, Writes}

@@ -18,7 +18,7 @@ use Rattle.classes.specs.declared.Standing.{Standing}
 use Rattle.classes.specs.declared.Standing.the-variants.{In, Out, Either}
 use Rattle.sheet.specs.Limits.{mostMarks}
 use Rattle.sheet.specs.Record.{Record, inClass, notOut, NoneEither}
-use Rattle.sheet.proofs.Tests.{some-marks}
+use Rattle.sheet.proofs.Limits.{some-marks}
 use Rattle.sheet.proofs.Told.{in-not-out}
 use Rattle.sheet.specs.Sound.{ClassReady, recordOf}
 use Rattle.sheet.specs.declared.Sheet.{Sheet}

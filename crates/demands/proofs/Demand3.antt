@@ -15,14 +15,16 @@ use Rattle.profiles.specs.Profiles.{countOk, profileOf, namesOk}
 use Rattle.sheet.specs.Limits.{mostMarks, entries, marksOk}
 use Rattle.sheet.specs.Record.{Record, inClass, Table, outside-counts, either-counts, held-seconds, kept, quantity, sheetOf}
 use Rattle.sheet.specs.Sound.{sizeOf}
-use Rattle.sheet.specs.Calls.{openOf, openUnderOf, moveOf, ClassSize}
+use Rattle.sheet.specs.Answers.{openOf, openUnderOf, ClassSize}
 use Rattle.sheet.specs.declared.Answer.{Answer}
-use Rattle.sheet.specs.declared.Call.{Call}
 use Rattle.sheet.specs.declared.Sheet.{Sheet}
 use Rattle.sheet.specs.declared.Value.{Value}
 use Rattle.sheet.proofs.Answers.{open-done, open-refused, open-under-done, open-under-faulty, open-under-refused}
-use Rattle.sheet.proofs.Alters.{did-alters}
-use Rattle.sheet.proofs.Tests.{boxes-fit, accepts}
+use Rattle.sheet.proofs.Limits.{boxes-fit}
+use Rattle.changes.specs.Calls.{moveOf}
+use Rattle.changes.specs.declared.Call.{Call}
+use Rattle.changes.proofs.Alters.{did-alters}
+use Rattle.changes.proofs.Tests.{accepts}
 use Rattle.listing.specs.Listing.{totalOf, Listed, Totalled}
 use Rattle.stored.specs.Answers.{readOf, ReadsBy}
 use Rattle.stored.specs.Fields.{good, ReadingBy}

@@ -6,7 +6,7 @@ use mathlib.Core.List.{List, [], _++_}
 use Rattle.dates.proofs.Known.{known}
 use Rattle.sheet.specs.Limits.{mostMarks, entries}
 use Rattle.sheet.specs.Record.{Record}
-use Rattle.sheet.specs.Calls.{openOf}
+use Rattle.sheet.specs.Answers.{openOf}
 use Rattle.sheet.specs.declared.Answer.{Answer}
 use Rattle.sheet.proofs.Answers.{open-done}
 use Rattle.listing.specs.Listing.{totalOf}

@@ -18,12 +18,12 @@ use Rattle.classes.specs.declared.Standing.the-variants.{In, Out, Either}
 use Rattle.sheet.specs.Limits.{mostMarks, entries, marksOk, amountOk}
 use Rattle.sheet.specs.Record.{Record, NoneEither, outside-counts, either-counts, held-seconds, sheetOf}
 use Rattle.sheet.specs.Sound.{ownIn, recordOf}
-use Rattle.sheet.specs.Calls.{fitsAmount, amountNo}
-use Rattle.sheet.specs.declared.Call.the-variants.{Change, Receive}
 use Rattle.sheet.specs.declared.Sheet.{Sheet}
 use Rattle.sheet.specs.declared.Value.{Value}
 use Rattle.sheet.proofs.Kept.{told-back}
-use Rattle.sheet.proofs.Tests.{change-own, amount-2, amount-4, amount-last, amount-0}
+use Rattle.changes.specs.Calls.{fitsAmount, amountNo}
+use Rattle.changes.specs.declared.Call.the-variants.{Change, Receive}
+use Rattle.changes.proofs.Tests.{change-own, amount-2, amount-4, amount-last, amount-0}
 use Rattle.listing.specs.Listing.{Totalled}
 use Rattle.stored.specs.Fields.{Bytes, good, ReadingBy}
 use Rattle.stored.specs.Form.{section, profileBytes, formBy, form}

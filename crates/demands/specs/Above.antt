@@ -2,11 +2,13 @@
 use Prim.Native.Nat.{ℕ}
 use mathlib.Core.List.{List}
 use Rattle.sheet.specs.Limits.{mostMarks, entries}
-use Rattle.sheet.specs.Calls.{didOf, ClassSize}
-use Rattle.sheet.specs.Promises.{Long, Agree, Alike, AboveKept}
-use Rattle.sheet.specs.declared.Call.{Call}
+use Rattle.sheet.specs.Answers.{ClassSize}
+use Rattle.sheet.specs.Entries.{Long, Agree}
 use Rattle.sheet.specs.declared.Sheet.{Sheet}
 use Rattle.sheet.specs.declared.Value.{Value}
+use Rattle.changes.specs.Calls.{didOf}
+use Rattle.changes.specs.Promises.{Alike, AboveKept}
+use Rattle.changes.specs.declared.Call.{Call}
 use Rattle.listing.specs.Listing.{Listed, Totalled}
 use Rattle.checking.specs.Answers.{Checked}
 use Rattle.checking.specs.declared.Finding.{Finding}

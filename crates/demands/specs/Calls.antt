@@ -4,10 +4,11 @@ use Prim.Native.Nat.{ℕ}
 use mathlib.Core.List.{List, [], _∷_}
 use Rattle.sheet.specs.Limits.{mostMarks, entries}
 use Rattle.sheet.specs.Record.{Table}
-use Rattle.sheet.specs.Calls.{openOf, openUnderOf, didOf, ClassSize}
-use Rattle.sheet.specs.declared.Call.{Call}
+use Rattle.sheet.specs.Answers.{openOf, openUnderOf, ClassSize}
 use Rattle.sheet.specs.declared.Sheet.{Sheet}
 use Rattle.sheet.specs.declared.Value.{Value}
+use Rattle.changes.specs.Calls.{didOf}
+use Rattle.changes.specs.declared.Call.{Call}
 use Rattle.listing.specs.Listing.{Listed, Totalled}
 use Rattle.stored.specs.Answers.{ReadsBy, Reads, Writes}
 use Rattle.stored.specs.declared.Layout.the-variants.{First}

@@ -1,6 +1,6 @@
--- ONE CARRIER PER CAN (02, Q-7). Profiles, their faults and which combinations break one are defined in profiles/specs, opening and class changes in
--- sheet/specs, the end of the stored form in stored/specs; here stands what was asked of them, a field for each sentence that is no field of a demand
--- already.
+-- ONE CARRIER PER CAN (02, Q-7). Profiles, their faults and which combinations break one are defined in profiles/specs, opening in sheet/specs,
+-- class changes in changes/specs, the end of the stored form in stored/specs; here stands what was asked of them, a field for each sentence that is no
+-- field of a demand already.
 use Prim.Native.Nat.{ℕ, _^_, _<_, _≤_}
 use mathlib.Core.Path.{_≡_}
 use mathlib.Core.Bool.{true, false}
@@ -16,10 +16,11 @@ use Rattle.classes.specs.declared.Standing.the-variants.{Out, Either}
 use Rattle.sheet.specs.Limits.{mostMarks, entries, marksOk}
 use Rattle.sheet.specs.Record.{Record, inClass, notOut, outside-counts, either-counts, sheetWith, sheetOf, Obeys, openedUnder}
 use Rattle.sheet.specs.Sound.{ownIn, ClassReady, Ready}
-use Rattle.sheet.specs.Calls.{openUnderOf, didOf}
-use Rattle.sheet.specs.declared.Call.{Call}
-use Rattle.sheet.specs.declared.Call.the-variants.{Change, Receive, Withdraw}
+use Rattle.sheet.specs.Answers.{openUnderOf}
 use Rattle.sheet.specs.declared.Sheet.{Sheet}
+use Rattle.changes.specs.Calls.{didOf}
+use Rattle.changes.specs.declared.Call.{Call}
+use Rattle.changes.specs.declared.Call.the-variants.{Change, Receive, Withdraw}
 use Rattle.stored.specs.Fields.{Bytes, good, ReadingBy}
 use Rattle.stored.specs.declared.Layout.the-variants.{First}
 use Rattle.pla.specs.Reading.{PlaSays}

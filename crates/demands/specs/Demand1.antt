@@ -8,7 +8,7 @@ use lib.Dec.{eqb, leb}
 use lib.ListN.{getD}
 use Rattle.sheet.specs.Limits.{mostMarks, entries}
 use Rattle.sheet.specs.Record.{sheetOf, opened}
-use Rattle.sheet.specs.Calls.{openOf, openUnderOf}
+use Rattle.sheet.specs.Answers.{openOf, openUnderOf}
 use Rattle.stored.specs.Answers.{ReadsBy}
 use Rattle.stored.specs.declared.Layout.{Layout}
 use Rattle.stored.specs.declared.Read.{Read}

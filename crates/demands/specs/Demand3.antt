@@ -11,11 +11,12 @@ use Rattle.profiles.specs.Profiles.{profileOf}
 use Rattle.sheet.specs.Limits.{mostMarks, entries}
 use Rattle.sheet.specs.Record.{Record, inClass, Table, kept, quantity, openedUnder, opened}
 use Rattle.sheet.specs.Sound.{sizeOf}
-use Rattle.sheet.specs.Calls.{openOf, openUnderOf, didOf, moveOf, ClassSize}
-use Rattle.sheet.specs.Promises.{Altered}
-use Rattle.sheet.specs.declared.Call.{Call}
+use Rattle.sheet.specs.Answers.{openOf, openUnderOf, ClassSize}
 use Rattle.sheet.specs.declared.Sheet.{Sheet}
 use Rattle.sheet.specs.declared.Value.{Value}
+use Rattle.changes.specs.Calls.{didOf, moveOf}
+use Rattle.changes.specs.Promises.{Altered}
+use Rattle.changes.specs.declared.Call.{Call}
 use Rattle.listing.specs.Listing.{totalOf, Listed, Totalled}
 use Rattle.stored.specs.Fields.{Bytes, good, ReadingBy, Reading}
 use Rattle.stored.specs.Answers.{ReadsBy}

@@ -13,8 +13,8 @@ use Rattle.times.specs.Texts.{InMinutes, InHours, Readable}
 use Rattle.times.specs.Places.{Place, ReadsAs}
 use Rattle.times.specs.Answers.{Answered}
 use Rattle.dates.specs.declared.date.Date.{Date}
-use Rattle.sheet.specs.declared.Call.{Call}
-use Rattle.sheet.specs.declared.Call.the-variants.{Receive, Withdraw}
+use Rattle.changes.specs.declared.Call.{Call}
+use Rattle.changes.specs.declared.Call.the-variants.{Receive, Withdraw}
 use Rattle.machine.specs.Rows.{rows, SameBut}
 use Rattle.lines.specs.declared.Order.{Order}
 use Rattle.lines.specs.declared.Order.the-variants.{Make}

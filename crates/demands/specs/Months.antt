@@ -10,10 +10,10 @@ use Rattle.dates.specs.Gregorian.{lastDay}
 use Rattle.dates.specs.Known.{Known}
 use Rattle.dates.specs.declared.date.Date.{Date}
 use Rattle.sheet.specs.Limits.{mostMarks, entries}
-use Rattle.sheet.specs.Calls.{openOf}
-use Rattle.sheet.specs.declared.Call.{Call}
+use Rattle.sheet.specs.Answers.{openOf}
 use Rattle.sheet.specs.declared.Sheet.{Sheet}
 use Rattle.sheet.specs.declared.Value.{Value}
+use Rattle.changes.specs.declared.Call.{Call}
 use Rattle.listing.specs.Listing.{Totalled}
 use Rattle.histories.specs.Histories.{numberOf, afterAll, numbersOf, sheetAfter, numberGiven}
 use Rattle.machine.specs.Rows.{Row}

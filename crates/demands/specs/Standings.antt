@@ -1,5 +1,5 @@
--- COMBINATIONS NO CAN COULD HAVE (02, Q-6). Standings, counts and calls are defined in sheet/specs, the stored form in stored/specs; here stands what was
--- asked of them, a field for each sentence that is no field of a demand already.
+-- COMBINATIONS NO CAN COULD HAVE (02, Q-6). Standings are defined in classes/specs, counts in sheet/specs, calls in changes/specs, the stored form
+-- in stored/specs; here stands what was asked of them, a field for each sentence that is no field of a demand already.
 use Prim.Native.Nat.{ℕ, _+_, _^_, _<_, _≤_}
 use mathlib.Core.Path.{_≡_}
 use mathlib.Core.Bool.{true, false}
@@ -14,11 +14,11 @@ use Rattle.classes.specs.declared.Standing.the-variants as standing
 use Rattle.sheet.specs.Limits.{mostMarks, entries, marksOk, amountOk}
 use Rattle.sheet.specs.Record.{Record, inClass, NoneEither, outside-counts, either-counts, held-seconds}
 use Rattle.sheet.specs.Sound.{ownIn}
-use Rattle.sheet.specs.Calls.{didOf}
-use Rattle.sheet.specs.declared.Call.{Call}
-use Rattle.sheet.specs.declared.Call.the-variants.{Change, Receive}
 use Rattle.sheet.specs.declared.Sheet.{Sheet}
 use Rattle.sheet.specs.declared.Value.{Value}
+use Rattle.changes.specs.Calls.{didOf}
+use Rattle.changes.specs.declared.Call.{Call}
+use Rattle.changes.specs.declared.Call.the-variants.{Change, Receive}
 use Rattle.listing.specs.Listing.{Totalled}
 use Rattle.stored.specs.Fields.{Bytes, good, ReadingBy}
 use Rattle.stored.specs.Form.{section, profileBytes, formBy, form}

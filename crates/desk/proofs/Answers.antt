@@ -14,7 +14,7 @@ use Rattle.profiles.specs.declared.Profile.the-variants.{None}
 use Rattle.classes.specs.Standings.{isIn, isOut}
 use Rattle.sheet.specs.Limits.{mostMarks, mostHeld, marksOk, amountOk}
 use Rattle.sheet.specs.Record.{Record, NoneEither, opened}
-use Rattle.sheet.specs.declared.Call.{Call}
+use Rattle.changes.specs.declared.Call.{Call}
 use Rattle.histories.specs.Histories.{numberOf, accepted, after}
 use Rattle.machine.specs.Rows.{Row}
 use Rattle.machine.specs.Heard.{Hears, nothing, page, refused}

@@ -9,7 +9,7 @@ use Rattle.lists.proofs.Model.{found}
 use Rattle.sheet.specs.Limits.{mostMarks, marksOk}
 use Rattle.sheet.specs.Record.{Record, inClass, notOut, opened}
 use Rattle.sheet.proofs.Told.{in-not-out}
-use Rattle.sheet.specs.declared.Call.{Call}
+use Rattle.changes.specs.declared.Call.{Call}
 use Rattle.histories.specs.Histories.{Good, numberOf, after}
 use Rattle.histories.proofs.Goods.{good-after, good-opened, good-small}
 use Rattle.machine.specs.Rows.{Row}

@@ -17,11 +17,11 @@ use Rattle.tables.specs.Tables.{entry}
 use Rattle.sheet.specs.Limits.{mostMarks, entries}
 use Rattle.sheet.specs.Record.{Record, inClass, held-seconds, sheetOf}
 use Rattle.sheet.specs.Sound.{sizeOf}
-use Rattle.sheet.specs.Calls.{ClassSize}
+use Rattle.sheet.specs.Answers.{ClassSize}
 use Rattle.sheet.specs.declared.Sheet.{Sheet}
 use Rattle.sheet.specs.declared.Value.{Value}
 use Rattle.sheet.proofs.Opening.{combinations-fit}
-use Rattle.sheet.proofs.Tests.{boxes-fit, marks-most}
+use Rattle.sheet.proofs.Limits.{boxes-fit, marks-most}
 use Rattle.listing.specs.Listing.{taken, totalOf, Listed, Totalled}
 use Rattle.listing.proofs.Laid.{laid-few, laid-inside, laid-is}
 use Rattle.histories.specs.Histories.{Good, Given}

@@ -19,7 +19,7 @@ use Rattle.classes.specs.Standings.{isIn, isOut}
 use Rattle.classes.specs.declared.Standing.{Standing}
 use Rattle.classes.specs.declared.Standing.the-variants.{In, Out}
 use Rattle.sheet.specs.Limits.{marksOk, amountOk}
-use Rattle.sheet.specs.declared.Call.the-variants.{Change, Receive, Withdraw}
+use Rattle.changes.specs.declared.Call.the-variants.{Change, Receive, Withdraw}
 use Rattle.machine.specs.Rows.{whole, rowsFrom, judged}
 use Rattle.machine.specs.Machine.{Onward}
 use Rattle.times.specs.declared.Form.the-variants.{NoTime, Minutes}

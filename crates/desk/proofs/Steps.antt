@@ -8,10 +8,11 @@ use Rattle.ground.proofs.Areas.{wrote-none}
 use Rattle.ground.proofs.Cases.{if}
 use Rattle.sheet.specs.Limits.{mostMarks, entries, marksOk}
 use Rattle.sheet.specs.Record.{Record, sheetOf, opened}
-use Rattle.sheet.specs.Calls.{openOf, didOf}
+use Rattle.sheet.specs.Answers.{openOf}
 use Rattle.sheet.specs.declared.Sheet.{Sheet}
 use Rattle.sheet.specs.declared.Answer.{Answer}
-use Rattle.sheet.specs.declared.Call.{Call}
+use Rattle.changes.specs.Calls.{didOf}
+use Rattle.changes.specs.declared.Call.{Call}
 use Rattle.histories.specs.Histories.{numberOf, after}
 use Rattle.histories.proofs.Kept.{did-kept}
 use Rattle.machine.specs.Rows.{Row}

@@ -13,7 +13,7 @@ use Rattle.print.specs.Texts.{decimal, clock, pattern}
 use Rattle.sheet.specs.Limits.{mostMarks, marksOk}
 use Rattle.sheet.specs.Record.{Record, opened, inClass, notOut}
 use Rattle.sheet.specs.Sound.{sizeOf}
-use Rattle.sheet.specs.declared.Call.{Call}
+use Rattle.changes.specs.declared.Call.{Call}
 use Rattle.listing.specs.Listing.{totalOf}
 use Rattle.histories.specs.Histories.{numberOf, after}
 use Rattle.machine.specs.Rows.{Row}

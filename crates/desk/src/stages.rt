@@ -9,6 +9,7 @@ ghost use Rattle.desk.specs.Prints.{State, first, going, holdings};
 ghost use Rattle.desk.specs.States.{In, isOver, SteppedTo};
 ghost use Rattle.desk.specs.Parts.{OfRecord, SheetOfRecord, ledTo, FirstAnswered};
 use crate::page;
+use changes;
 use lines;
 use lines::First;
 use lines::Order;
@@ -108,7 +109,7 @@ fn later_line(old: Sheet, line: Line, out: &mut [u8]) -> Stepped
     let order = lines::order_of(line, m);
     match order {
         Order::Make(call, _) => {
-            let a = old.did(call);
+            let a = changes::did(old, call);
             let new = a.sheet;
             let wrote = machine::spoken(out, line.number, a.number);
             led_to(Stage::Going, new, wrote)

@@ -19,11 +19,11 @@ use Rattle.classes.specs.declared.Standing.the-variants.{In, Out, Either}
 use Rattle.sheet.specs.Limits.{mostMarks, entries}
 use Rattle.sheet.specs.Record.{Record, inClass, Table, outside-counts, either-counts, held-seconds, kept, quantity, sheetOf}
 use Rattle.sheet.specs.Sound.{ClassReady, Ready, recordOf, sizeOf}
-use Rattle.sheet.specs.Calls.{ClassSize}
+use Rattle.sheet.specs.Answers.{ClassSize}
 use Rattle.sheet.specs.declared.Value.{Value}
 use Rattle.sheet.proofs.Kept.{class-sound, standing-told, times-sound}
-use Rattle.sheet.proofs.Keeps.{class-of-ready}
-use Rattle.sheet.proofs.Tests.{boxes-fit}
+use Rattle.sheet.proofs.Ready.{class-of-ready}
+use Rattle.sheet.proofs.Limits.{boxes-fit}
 use Rattle.listing.specs.Listing.{totalOf, Laid, Listed, Totalled}
 use Rattle.listing.proofs.Laid.{list-laid}
 use Rattle.histories.specs.Histories.{Good, Given}

@@ -16,10 +16,10 @@ use Rattle.classes.specs.Standings.{is, isOut, isEither}
 use Rattle.classes.specs.declared.Standing.{Standing}
 use Rattle.sheet.specs.Limits.{mostMarks, mostHeld, marksOk, amountOk}
 use Rattle.sheet.specs.Record.{Record, inClass, updated, openedUnder, opened}
-use Rattle.sheet.specs.declared.Call.{Call}
-use Rattle.sheet.specs.declared.Call.the-variants.{Change, Receive, Withdraw}
 use Rattle.sheet.proofs.Kept.{opened-obeys}
 use Rattle.sheet.proofs.Told.{in-not-out}
+use Rattle.changes.specs.declared.Call.{Call}
+use Rattle.changes.specs.declared.Call.the-variants.{Change, Receive, Withdraw}
 use Rattle.histories.specs.Histories.{Good, numberOf, accepted, after}
 use Rattle.histories.proofs.Kept.{in-range, change-passed, receive-passed}
 

@@ -5,7 +5,7 @@ use Prim.Native.Nat.{ℕ}
 use Rattle.sheet.specs.Limits.{entries}
 use Rattle.sheet.specs.Record.{Record, sheetOf}
 use Rattle.sheet.specs.declared.Answer.{Answer}
-use Rattle.sheet.specs.declared.Call.{Call}
+use Rattle.changes.specs.declared.Call.{Call}
 use Rattle.histories.specs.Histories.{Good, numberOf, after, afterAll, numbersOf, sheetAfter, numberGiven}
 use Rattle.histories.proofs.Kept.{did-kept}
 use Rattle.histories.proofs.Goods.{good-after}

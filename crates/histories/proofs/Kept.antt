@@ -14,13 +14,13 @@ use Rattle.tables.proofs.Shifts.{stays-at, moved-afresh}
 use Rattle.classes.specs.Standings.{outs, eithers}
 use Rattle.sheet.specs.Limits.{mostMarks, entries, marksOk, amountOk}
 use Rattle.sheet.specs.Record.{Record, Table, outside-counts, either-counts, held-seconds, quantity, sheetWith, sheetFrom, sheetOf}
-use Rattle.sheet.specs.Calls.{answered, amountShift, moveOf, shiftIn, movedSheet, didOf}
-use Rattle.sheet.specs.declared.Call.{Call}
-use Rattle.sheet.specs.declared.Call.the-variants.{Change, Receive, Withdraw}
-use Rattle.sheet.specs.declared.Move.{Move}
 use Rattle.sheet.specs.declared.Sheet.{Sheet}
 use Rattle.sheet.specs.declared.Answer.{Answer}
-use Rattle.sheet.proofs.Tests.{boxes-fit}
+use Rattle.sheet.proofs.Limits.{boxes-fit}
+use Rattle.changes.specs.Calls.{answered, amountShift, moveOf, shiftIn, movedSheet, didOf}
+use Rattle.changes.specs.declared.Call.{Call}
+use Rattle.changes.specs.declared.Call.the-variants.{Change, Receive, Withdraw}
+use Rattle.changes.specs.declared.Move.{Move}
 use Rattle.histories.specs.Histories.{Good, numberOf, accepted, after}
 use Rattle.histories.proofs.Numbers.{changed-shifts, own-outs, own-eithers, number-afresh}
 

@@ -25,12 +25,12 @@ use Rattle.classes.specs.declared.Standing.the-variants.{Either}
 use Rattle.sheet.specs.Limits.{mostMarks, marksOk, amountOk, mostHeld}
 use Rattle.sheet.specs.Record.{Record, updated, outside-counts, either-counts, held-seconds, quantity, sheetOf}
 use Rattle.sheet.specs.Sound.{ownIn}
-use Rattle.sheet.specs.Calls.{between, fitsCount, countsFit, fitsAmount, changeNo, amountNo, numberOn}
-use Rattle.sheet.specs.declared.Call.{Call}
-use Rattle.sheet.specs.declared.Call.the-variants.{Change, Receive, Withdraw}
-use Rattle.sheet.proofs.Between.{between-shifts}
 use Rattle.sheet.proofs.Kept.{adds-one, tells-is, times-total}
-use Rattle.sheet.proofs.Tests.{change-2, change-settled, change-3, change-12, change-0}
+use Rattle.changes.specs.Calls.{between, fitsCount, countsFit, fitsAmount, changeNo, amountNo, numberOn}
+use Rattle.changes.specs.declared.Call.{Call}
+use Rattle.changes.specs.declared.Call.the-variants.{Change, Receive, Withdraw}
+use Rattle.changes.proofs.Between.{between-shifts}
+use Rattle.changes.proofs.Tests.{change-2, change-settled, change-3, change-12, change-0}
 use Rattle.histories.specs.Histories.{numberOf}
 
 -- what a combination adds to either count

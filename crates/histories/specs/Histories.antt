@@ -10,12 +10,12 @@ use Rattle.profiles.specs.Profiles.{profileOk, settles}
 use Rattle.classes.specs.Standings.{is, isOut, isEither}
 use Rattle.sheet.specs.Limits.{mostMarks, mostHeld, marksOk, amountOk}
 use Rattle.sheet.specs.Record.{Record, withStanding, withTimes, updated, inClass, notOut, Obeys}
-use Rattle.sheet.specs.Calls.{didOf}
 use Rattle.sheet.specs.declared.Sheet.{Sheet}
 use Rattle.sheet.specs.declared.Value.{Value}
+use Rattle.changes.specs.Calls.{didOf}
+use Rattle.changes.specs.declared.Call.{Call}
+use Rattle.changes.specs.declared.Call.the-variants.{Change, Receive, Withdraw}
 use Rattle.listing.specs.Listing.{Laid}
-use Rattle.sheet.specs.declared.Call.{Call}
-use Rattle.sheet.specs.declared.Call.the-variants.{Change, Receive, Withdraw}
 
 -- a record that a sheet can have: 1 to 5 marks, a profile that is not faulty and that is obeyed, every number that is no combination out, at most
 -- 4,000,000,000 seconds, and none under an either combination

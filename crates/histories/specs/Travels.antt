@@ -10,11 +10,11 @@ use Rattle.sheet.specs.Limits.{mostMarks, entries}
 use Rattle.sheet.specs.Record.{Record}
 use Rattle.sheet.specs.declared.Sheet.{Sheet}
 use Rattle.sheet.specs.declared.Value.{Value}
+use Rattle.changes.specs.declared.Call.{Call}
+use Rattle.changes.specs.Calls.{didOf}
 use Rattle.stored.specs.Answers.{Reads, Writes}
 use Rattle.stored.specs.Form.{form}
 use Rattle.stored.specs.declared.Read.{Read}
-use Rattle.sheet.specs.declared.Call.{Call}
-use Rattle.sheet.specs.Calls.{didOf}
 use Rattle.histories.specs.Histories.{numberOf, after}
 
 -- a call that changes the sheet, or a journey through the lent bytes `out`

@@ -1,5 +1,6 @@
 // Runs the known sheets, times and amounts of 01 that are not shown of the definitions, and the lists and times of 02, and prints what the library
 // answers; the file `stdout` has what is to come. 000's first function is there with its own six lines beside ours.
+use changes;
 use checking;
 use libc::STDOUT_FILENO;
 use listing;
@@ -78,7 +79,7 @@ fn with_class(m: usize, class: &[u8]) -> Sheet {
     let mut sheet = opened.sheet;
     let mut i: usize = 0;
     while i < class.len() {
-        let entered = sheet.enter(ground::byte(class[i]));
+        let entered = changes::enter(sheet, ground::byte(class[i]));
         let next = entered.sheet;
         sheet = next;
         i += 1;
@@ -179,13 +180,13 @@ fn print_bytes(bytes: &[u8]) {
 // The sheet of the desk program's sample.
 fn sample() -> Sheet {
     let class = ONE_TO_THREE;
-    let a = with_class(2, &class).receive(3, 605);
+    let a = changes::receive(with_class(2, &class), 3, 605);
     let s = a.sheet;
-    let b = s.receive(1, 150);
+    let b = changes::receive(s, 1, 150);
     let t = b.sheet;
-    let c = t.withdraw(3, 5);
+    let c = changes::withdraw(t, 3, 5);
     let u = c.sheet;
-    let d = u.receive(0, 240);
+    let d = changes::receive(u, 0, 240);
     let v = d.sheet;
     v
 }
@@ -241,7 +242,7 @@ fn times_of_both_forms() {
 fn amount(d: u64) {
     let opened = Sheet::open(1);
     let sheet = opened.sheet;
-    let r = sheet.receive(1, d);
+    let r = changes::receive(sheet, 1, d);
     word(b"amount");
     number(d);
     number(r.number);
@@ -254,16 +255,16 @@ fn limit() {
     let mut sheet = opened.sheet;
     let mut i: u64 = 0;
     while i < 111_114 {
-        let r = sheet.receive(1, 35_999);
+        let r = changes::receive(sheet, 1, 35_999);
         let next = r.sheet;
         sheet = next;
         i += 1;
     }
-    let last = sheet.receive(1, 7_114);
+    let last = changes::receive(sheet, 1, 7_114);
     word(b"held 4000000000");
     number(last.number);
     let full = last.sheet;
-    let more = full.receive(1, 1);
+    let more = changes::receive(full, 1, 1);
     word(b"\nheld 4000000001");
     number(more.number);
     word(b"\n");

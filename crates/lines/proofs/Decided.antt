@@ -15,8 +15,8 @@ use Rattle.times.specs.Texts.{Readable}
 use Rattle.times.specs.Places.{ReadsAs}
 use Rattle.times.proofs.Decided.{time-decided}
 use Rattle.classes.specs.declared.Standing.the-variants.{In, Out}
-use Rattle.sheet.specs.declared.Call.{Call}
-use Rattle.sheet.specs.declared.Call.the-variants.{Change, Receive, Withdraw}
+use Rattle.changes.specs.declared.Call.{Call}
+use Rattle.changes.specs.declared.Call.the-variants.{Change, Receive, Withdraw}
 use Rattle.machine.specs.Rows.{Row, whole, spoiled}
 use Rattle.lines.specs.declared.Order.{Order}
 use Rattle.lines.specs.declared.Order.the-variants.{Make, End, Unreadable}

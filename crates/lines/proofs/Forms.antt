@@ -11,7 +11,7 @@ use Rattle.ground.proofs.Figures.{figures-without}
 use Rattle.times.specs.declared.Form.{Form}
 use Rattle.times.specs.Texts.{Readable}
 use Rattle.times.proofs.Bytes.{no-space, some-colon}
-use Rattle.sheet.specs.declared.Call.{Call}
+use Rattle.changes.specs.declared.Call.{Call}
 use Rattle.lines.specs.declared.Order.{Order}
 use Rattle.lines.specs.declared.Order.the-variants.{Make, Unreadable}
 use Rattle.lines.specs.declared.First.{First}

@@ -16,7 +16,7 @@ use Rattle.ground.proofs.Figures.{figures-length}
 use Rattle.times.specs.Texts.{Readable}
 use Rattle.times.specs.Places.{ReadsAs, value, fault}
 use Rattle.classes.specs.declared.Standing.the-variants.{In, Out}
-use Rattle.sheet.specs.declared.Call.the-variants.{Change, Receive, Withdraw}
+use Rattle.changes.specs.declared.Call.the-variants.{Change, Receive, Withdraw}
 use Rattle.lines.specs.declared.Order.{Order}
 use Rattle.lines.specs.declared.Order.the-variants.{Make, End, Unreadable}
 use Rattle.lines.specs.declared.First.the-variants.{Marks, NotMarks}

@@ -12,7 +12,7 @@ use Rattle.times.specs.Texts.{Readable}
 use Rattle.times.specs.Places.{value}
 use Rattle.times.proofs.Settled.{read-settled}
 use Rattle.classes.specs.declared.Standing.the-variants.{In, Out}
-use Rattle.sheet.specs.declared.Call.the-variants.{Change}
+use Rattle.changes.specs.declared.Call.the-variants.{Change}
 use Rattle.machine.specs.Rows.{Row}
 use Rattle.lines.specs.declared.Order.{Order}
 use Rattle.lines.specs.declared.Order.the-variants.{Make}

@@ -8,7 +8,7 @@ use Rattle.times.specs.declared.Form.{Form}
 use Rattle.times.specs.declared.Form.the-variants.{NoTime}
 use Rattle.times.specs.Texts.{Readable}
 use Rattle.classes.specs.declared.Standing.the-variants.{In, Out}
-use Rattle.sheet.specs.declared.Call.the-variants.{Change, Receive, Withdraw}
+use Rattle.changes.specs.declared.Call.the-variants.{Change, Receive, Withdraw}
 use Rattle.machine.specs.Rows.{Row, whole, spoiled}
 use Rattle.lines.specs.declared.Order.{Order}
 use Rattle.lines.specs.declared.Order.the-variants.{Make, End, Unreadable}

@@ -6,7 +6,7 @@ use lib.ListN.{length, drop}
 use Rattle.lists.specs.Lists.{FirstShortest}
 use Rattle.sheet.specs.Record.{Record, inClass, notOut}
 use Rattle.sheet.specs.Sound.{recordOf}
-use Rattle.sheet.specs.Promises.{Agree}
+use Rattle.sheet.specs.Entries.{Agree}
 use Rattle.sheet.specs.declared.Sheet.{Sheet}
 use Rattle.sheet.specs.declared.Value.{Value}
 use Rattle.sheet.proofs.Agrees.{agree-back, record-same, class-ready-same}

@@ -14,7 +14,7 @@ use Rattle.print.proofs.Digits.{pattern-length, pattern-sign}
 use Rattle.clock.proofs.ReadsBack.{decimal-numeral, decimal-digit}
 use Rattle.lists.specs.Lists.{Boxes, covered}
 use Rattle.sheet.specs.Limits.{marksOk}
-use Rattle.sheet.proofs.Tests.{some-marks}
+use Rattle.sheet.proofs.Limits.{some-marks}
 use Rattle.stored.specs.Fields.{Outcome, good}
 use Rattle.pla.specs.Texts.{betweenFrom, isNewline, linesOf, beforeComment, isGap, filled, wordsOf}
 use Rattle.pla.specs.Sayings.{Saying, inputs, output, count, cube, Says, dot-i, dot-o, dot-p, drawn, dot-e}

@@ -14,7 +14,7 @@ use Rattle.lists.proofs.Count.{covered-last}
 use Rattle.sets.specs.Sets.{valueAt, AllSets}
 use Rattle.sets.proofs.Bits.{has-zero, has-or}
 use Rattle.sheet.specs.Limits.{mostMarks, marksOk}
-use Rattle.sheet.proofs.Tests.{marks-most}
+use Rattle.sheet.proofs.Limits.{marks-most}
 use Rattle.stored.specs.Fields.{refused}
 use Rattle.pla.specs.Sayings.{inputs, output, count, cube}
 use Rattle.pla.specs.Reading.{Count, uncounted, counted, isCounted, Said as Saids, nothingSaid, on, stop, judge}

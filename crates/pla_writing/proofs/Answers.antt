@@ -14,7 +14,7 @@ use Rattle.sheet.specs.Sound.{ClassReady, recordOf}
 use Rattle.sheet.specs.declared.Sheet.{Sheet}
 use Rattle.sheet.specs.declared.Value.{Value}
 use Rattle.sheet.proofs.Opening.{combinations-fit}
-use Rattle.sheet.proofs.Tests.{marks-most}
+use Rattle.sheet.proofs.Limits.{marks-most}
 use Rattle.listing.specs.Listing.{Laid, Listed}
 use Rattle.listing.proofs.Laid.{class-small, list-laid, laid-few, laid-inside, laid-is}
 use Rattle.pla.specs.Writing.{plaText}

@@ -75,10 +75,10 @@ fn told(job: u8, sheet: Sheet, k: u64, form: &mut [u8], list: &[u8]) -> u64 {
             let wrote = writing::write(sheet, form);
             wrote.value
         }
-        b'a' => seen(sheet.receive(c, 10), k),
-        b'b' => seen(sheet.withdraw(c, 10), k),
-        b'i' => seen(sheet.enter(4), k),
-        b'o' => seen(sheet.leave(0), k),
+        b'a' => seen(changes::receive(sheet, c, 10), k),
+        b'b' => seen(changes::withdraw(sheet, c, 10), k),
+        b'i' => seen(changes::enter(sheet, 4), k),
+        b'o' => seen(changes::leave(sheet, 0), k),
         b's' => if sheet.ready() { 1 } else { 0 },
         b'h' => {
             let total = listing::total(sheet);
@@ -108,11 +108,11 @@ fn stocked(seconds: u64) -> Sheet {
     let mut sheet = opened.sheet;
     for c in 0..32 {
         if (CLASS >> c) % 2 == 1 {
-            let entered = sheet.enter(c);
+            let entered = changes::enter(sheet, c);
             let larger = entered.sheet;
             sheet = larger;
         }
-        let received = sheet.receive(c, seconds);
+        let received = changes::receive(sheet, c, seconds);
         let held = received.sheet;
         sheet = held;
     }

@@ -18,8 +18,8 @@ use Rattle.sheet.specs.declared.Value.{Value}
 use Rattle.sheet.specs.Limits.{marksOk}
 use Rattle.sheet.specs.Record.{Record, inClass, Table, outside-counts, either-counts, held-seconds, kept}
 use Rattle.sheet.specs.Sound.{TimesSound, ClassReady, Ready, recordOf, sizeOf}
-use Rattle.sheet.specs.Calls.{ClassSize}
-use Rattle.sheet.specs.Promises.{Agree}
+use Rattle.sheet.specs.Answers.{ClassSize}
+use Rattle.sheet.specs.Entries.{Agree}
 
 -- what own numbers tell
 abbrev recordFrom : ℕ → Profile → (ℕ → ℕ) → (ℕ → ℕ) → (ℕ → ℕ) → Record

@@ -1,5 +1,4 @@
-pub mod Between
-pub mod Tests
+pub mod Limits
 pub mod Told
 pub mod Over
 pub mod Ready
@@ -7,8 +6,6 @@ pub mod Answers
 pub mod Opening
 pub mod Classes
 pub mod Kept
-pub mod Alters
-pub mod Keeps
-pub mod Above
+pub mod Opened
 pub mod Agrees
 pub mod Settled

@@ -6,10 +6,10 @@ use native.Mathlib.Nat.{pow-le-pow-right}
 use native.Mathlib.Omega.{arith}
 use Rattle.classes.specs.Parts.{TableOver}
 use Rattle.sheet.specs.Limits.{mostMarks, entries, marksOk}
-use Rattle.sheet.specs.Promises.{Long}
+use Rattle.sheet.specs.Entries.{Long}
 use Rattle.sheet.specs.Record.{Table, kept}
 use Rattle.sheet.specs.declared.Sheet.{Sheet}
-use Rattle.sheet.proofs.Tests.{marks-most}
+use Rattle.sheet.proofs.Limits.{marks-most}
 
 pub boxes-within : (m : ℕ) → m ≤ mostMarks → 3 ^ m ≤ entries
 boxes-within m l = pow-le-pow-right {n = 3} (omega arith) {i = m} {j = 5} l

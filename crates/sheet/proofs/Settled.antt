@@ -2,20 +2,16 @@
 use Prim.Native.Nat.{ℕ}
 use mathlib.Core.Path.{_≡_, refl, sym, _∙_}
 use mathlib.Core.List.{List}
-use Rattle.sheet.specs.declared.Call.{Call}
 use Rattle.sheet.specs.declared.Sheet.{Sheet}
 use Rattle.sheet.specs.declared.Answer.{Answer}
 use Rattle.sheet.specs.declared.Value.{Value}
-use Rattle.sheet.specs.Calls.{openOf, openUnderOf, didOf, ClassSize, spoiled, told}
+use Rattle.sheet.specs.Answers.{openOf, openUnderOf, ClassSize, spoiled, told}
 
 pub open-settled : (most n m : ℕ) (a z : Answer) → a ≡ openOf most n m → z ≡ openOf most n m → a ≡ z
 open-settled most n m a z p q = p ∙ sym q
 
 pub open-under-settled : (most n m : ℕ) (groups : List ℕ) (a z : Answer) → a ≡ openUnderOf most n m groups → z ≡ openUnderOf most n m groups → a ≡ z
 open-under-settled most n m groups a z p q = p ∙ sym q
-
-pub did-settled : (most : ℕ) (s : Sheet) (k : Call) (a z : Answer) → a ≡ didOf most s k → z ≡ didOf most s k → a ≡ z
-did-settled most s k a z p q = p ∙ sym q
 
 pub size-settled : {most : ℕ} {s : Sheet} {a z : Value} → ClassSize most s a → ClassSize most s z → a ≡ z
 size-settled (spoiled p) (spoiled q) = refl

@@ -1,6 +1,6 @@
 pub mod Limits
 pub mod Record
 pub mod Sound
-pub mod Calls
-pub mod Promises
+pub mod Answers
+pub mod Entries
 pub mod Parts

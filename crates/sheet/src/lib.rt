@@ -1,29 +1,24 @@
-// The sheet: marks and carrier profile; for each box an outside count, an either count and held seconds; and the calls that open and change it. Every
-// call takes any numbers and any sheet, spoiled ones included, and answers by a number of 01's table.
+// The sheet: marks and carrier profile; for each box an outside count, an either count and held seconds; the calls that open it, and
+// what reads its class. Every call takes any numbers and any sheet, spoiled ones included, and answers by a number of 01's table.
 ghost use mathlib.Core.Path.{_≡_};
 ghost use Prim.Native.Nat.{_≤_};
 ghost use mathlib.Core.Bool.{cond};
 ghost use Rattle.ground.specs.Decides.{Decides};
 ghost use Rattle.tables.specs.Tables.{entry, afresh};
 ghost use Rattle.profiles.specs.Profiles.{breaks};
-ghost use Rattle.classes.specs.declared.Standing.the-variants.{In, Out, Either};
-ghost use Rattle.sheet.specs.Limits.{mostMarks, entries, mostHeld, mostAmount};
+ghost use Rattle.classes.specs.declared.Standing.the-variants.{Out, Either};
+ghost use Rattle.sheet.specs.Limits.{mostMarks, entries, mostHeld, mostAmount, marksOk};
 ghost use Rattle.sheet.specs.Record.{sheetFrom, sheetOf, openedUnder, opened, inClass};
-ghost use Rattle.sheet.specs.Calls.{refusedOpening, openOf, openUnderOf, movedSheet, didOf, ClassSize};
-ghost use Rattle.sheet.specs.Parts.{Accepted, Addable};
+ghost use Rattle.sheet.specs.Answers.{refusedOpening, openOf, openUnderOf, ClassSize};
+ghost use Rattle.sheet.specs.Parts.{Addable};
 ghost use Rattle.sheet.specs.Sound.{ClassReady, Ready, recordOf, sizeOf};
-ghost use Rattle.sheet.specs.declared.Call.the-variants.{Change, Receive, Withdraw};
 
-mod moves;
-mod numbers;
 mod soundness;
 
 use boxes;
 use classes::Standing;
-pub use numbers::marks_ok;
 use profiles::Profile;
 use tables;
-use tables::Shift;
 
 pub struct Sheet {
     pub marks: usize,
@@ -31,21 +26,6 @@ pub struct Sheet {
     pub outside: [u32; Sheet::ENTRIES],
     pub either: [u32; Sheet::ENTRIES],
     pub held: [u32; Sheet::ENTRIES],
-}
-
-// A call that changes a sheet, with any numbers.
-pub enum Call {
-    Change(Standing, usize),
-    Receive(usize, u64),
-    Withdraw(usize, u64),
-}
-
-// What a call comes to: the combination, and what each table is shifted by in the boxes that contain it.
-pub struct Move {
-    pub at: usize,
-    pub outside: Shift,
-    pub either: Shift,
-    pub held: Shift,
 }
 
 // The number of a call that opens or changes a sheet, and the sheet that is left.
@@ -58,6 +38,13 @@ pub struct Answer {
 pub struct Value {
     pub number: u64,
     pub value: u64,
+}
+
+// Whether a sheet may have m marks.
+pub fn marks_ok(m: usize) -> bool
+    ensures { λ r. ⌜ r ≡ marksOk mostMarks m ⌝ }
+{
+    1 <= m && m <= Sheet::MOST_MARKS
 }
 
 // The table of the sums over boxes of what each combination has of its own.
@@ -137,7 +124,7 @@ impl Sheet {
     pub fn open(marks: usize) -> Answer
         ensures { λ r. ⌜ r ≡ openOf mostMarks entries marks ⌝ }
     {
-        if numbers::marks_ok(marks) {
+        if marks_ok(marks) {
             return Answer {
                 number: 0,
                 sheet: Sheet::opened(marks),
@@ -167,7 +154,7 @@ impl Sheet {
     pub fn open_under(marks: usize, groups: &[u8]) -> Answer
         ensures { λ r. ⌜ r ≡ openUnderOf mostMarks entries marks (now (groups .entry)) ⌝ }
     {
-        if !numbers::marks_ok(marks) {
+        if !marks_ok(marks) {
             return Sheet::refused_opening(1);
         }
         if !profiles::names_ok(marks, groups) {
@@ -179,89 +166,6 @@ impl Sheet {
         }
     }
 
-    // The sheet with a move made in each table.
-    fn moved(self, v: Move) -> Sheet
-        requires { ⌜ Accepted self v ⌝ }
-        ensures { λ r. ⌜ r ≡ movedSheet v self ⌝ }
-    {
-        let m = self.marks;
-        let c = v.at;
-        let mut outside = self.outside;
-        let by = v.outside;
-        tables::move_at(m, c, by, &mut outside);
-        let mut either = self.either;
-        let more = v.either;
-        tables::move_at(m, c, more, &mut either);
-        let mut held = self.held;
-        let seconds = v.held;
-        tables::move_at(m, c, seconds, &mut held);
-        let profile = self.profile;
-        Sheet {
-            marks: m,
-            profile,
-            outside,
-            either,
-            held,
-        }
-    }
-
-    // Makes a call: its number, and the sheet that is left.
-    pub fn did(self, call: Call) -> Answer
-        ensures { λ r. ⌜ r ≡ didOf mostMarks self call ⌝ }
-    {
-        let m = self.marks;
-        let outside = self.outside;
-        let either = self.either;
-        let held = self.held;
-        let profile = self.profile;
-        let number = numbers::of_call(m, profile, &outside, &either, &held, call);
-        if number != 0 {
-            return Answer {
-                number,
-                sheet: self,
-            };
-        }
-        Answer {
-            number: 0,
-            sheet: self.moved(moves::of_call(m, &outside, &either, call)),
-        }
-    }
-
-    // Into the class.
-    pub fn enter(self, c: usize) -> Answer
-        ensures { λ r. ⌜ r ≡ didOf mostMarks self (Change In c) ⌝ }
-    {
-        self.did(Call::Change(Standing::In, c))
-    }
-
-    // Out of the class.
-    pub fn leave(self, c: usize) -> Answer
-        ensures { λ r. ⌜ r ≡ didOf mostMarks self (Change Out c) ⌝ }
-    {
-        self.did(Call::Change(Standing::Out, c))
-    }
-
-    // Neither in the class nor out of it: no can could have the combination.
-    pub fn make_either(self, c: usize) -> Answer
-        ensures { λ r. ⌜ r ≡ didOf mostMarks self (Change Either c) ⌝ }
-    {
-        self.did(Call::Change(Standing::Either, c))
-    }
-
-    // A receipt of d seconds.
-    pub fn receive(self, c: usize, d: u64) -> Answer
-        ensures { λ r. ⌜ r ≡ didOf mostMarks self (Receive c d) ⌝ }
-    {
-        self.did(Call::Receive(c, d))
-    }
-
-    // A withdrawal of d seconds.
-    pub fn withdraw(self, c: usize, d: u64) -> Answer
-        ensures { λ r. ⌜ r ≡ didOf mostMarks self (Withdraw c d) ⌝ }
-    {
-        self.did(Call::Withdraw(c, d))
-    }
-
     // Whether a call that reads the class can be answered: m is right, and the class table is sound.
     pub fn class_ready(self) -> bool
         ensures { λ r. ⌜ Decides r (ClassReady mostMarks self) ⌝ }
@@ -270,7 +174,7 @@ impl Sheet {
         let outside = self.outside;
         let either = self.either;
         let profile = self.profile;
-        numbers::marks_ok(m) && classes::class_sound(m, profile, &outside, &either)
+        marks_ok(m) && classes::class_sound(m, profile, &outside, &either)
     }
 
     // Whether a call that reads the class and the times can be answered.

@@ -21,7 +21,7 @@ use Rattle.classes.specs.declared.Standing.the-variants as standing
 use Rattle.sheet.specs.Limits.{mostHeld}
 use Rattle.sheet.specs.Record.{Record, opened, withStanding, withProfile, withTimes, Obeys}
 use Rattle.sheet.specs.Sound.{sizeOf}
-use Rattle.sheet.proofs.Tests.{marks-most}
+use Rattle.sheet.proofs.Limits.{marks-most}
 use Rattle.stored.specs.Sections.{Rest, nothing, profile, more, sections, bytesBehind, standsIn, numberBehind, takes, heldIn, mayStand, added}
 use Rattle.stored.specs.Fields.{marks, count as count-due, combination, behind, due, restDue, entriesDue, judge, Outcome, good, Run, done, ReadingBy}
 use Rattle.stored.specs.Form.{bytes, listed, entryOf, section, restOf, formBy}

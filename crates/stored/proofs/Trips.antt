@@ -23,7 +23,7 @@ use Rattle.sheet.specs.Record.{outside-counts, either-counts, Record, Obeys, sh
 use Rattle.sheet.specs.Sound.{Ready, sizeOf, ownIn, recordOf}
 use Rattle.sheet.specs.declared.Sheet.{Sheet}
 use Rattle.sheet.specs.declared.Value.{Value}
-use Rattle.sheet.proofs.Tests.{marks-most}
+use Rattle.sheet.proofs.Limits.{marks-most}
 use Rattle.sheet.proofs.Opening.{sheet-same}
 use Rattle.sheet.proofs.Kept.{class-sound, standing-told, times-sound}
 use Rattle.stored.specs.declared.Read.{Read}

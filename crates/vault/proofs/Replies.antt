@@ -8,10 +8,10 @@ use lib.ListN.{length, getD}
 use Rattle.tables.proofs.Entries.{tab-length}
 use Rattle.sheet.specs.Limits.{mostMarks, entries}
 use Rattle.sheet.specs.Record.{Record, inClass, Table, outside-counts, either-counts, held-seconds, kept, opened, sheetOf}
-use Rattle.sheet.specs.Promises.{Long}
+use Rattle.sheet.specs.Entries.{Long}
 use Rattle.sheet.specs.Sound.{Ready, sizeOf, recordOf}
-use Rattle.sheet.specs.Calls.{ClassSize}
-use Rattle.sheet.proofs.Keeps.{class-of-ready}
+use Rattle.sheet.specs.Answers.{ClassSize}
+use Rattle.sheet.proofs.Ready.{class-of-ready}
 use Rattle.listing.specs.Listing.{totalOf, Listed, Totalled}
 use Rattle.pla.specs.Answers.{WritesPla}
 use Rattle.sheet.specs.declared.Sheet.{Sheet}

@@ -11,7 +11,7 @@ use Rattle.ground.proofs.Cases.{if, and-right}
 use Rattle.profiles.specs.Profiles.{countOk, profileOf, namesOk}
 use Rattle.sheet.specs.Limits.{mostMarks, entries, marksOk}
 use Rattle.sheet.specs.Record.{Record, sheetOf, openedUnder, opened}
-use Rattle.sheet.specs.Calls.{openOf, openUnderOf}
+use Rattle.sheet.specs.Answers.{openOf, openUnderOf}
 use Rattle.sheet.specs.declared.Sheet.{Sheet}
 use Rattle.sheet.specs.declared.Answer.{Answer}
 use Rattle.sheet.proofs.Answers.{open-done, open-refused, open-under-done, open-under-faulty, open-under-refused}

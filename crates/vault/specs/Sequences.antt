@@ -8,11 +8,11 @@ use lib.ListN.{length, take}
 use Rattle.sheet.specs.Limits.{mostMarks}
 use Rattle.sheet.specs.Record.{Record}
 use Rattle.stored.specs.Form.{form}
-use Rattle.sheet.specs.Calls.{didOf}
 use Rattle.histories.specs.Histories.{numberOf, after}
-use Rattle.sheet.specs.declared.Call.{Call}
 use Rattle.sheet.specs.declared.Sheet.{Sheet}
 use Rattle.sheet.specs.declared.Answer.{Answer}
+use Rattle.changes.specs.Calls.{didOf}
+use Rattle.changes.specs.declared.Call.{Call}
 use Rattle.vault.specs.declared.Reply.{Reply}
 use Rattle.vault.specs.Entries.{Changes, same}
 

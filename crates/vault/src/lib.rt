@@ -5,8 +5,9 @@ ghost use Rattle.classes.specs.declared.Standing.the-variants.{In, Out, Either}
 ghost use Rattle.sheet.specs.Limits.{mostMarks, entries};
 ghost use Rattle.sheet.specs.Record.{outside-counts, either-counts, held-seconds};
 ghost use Rattle.sheet.specs.Sound.{ClassReady, Ready};
-ghost use Rattle.sheet.specs.Calls.{openOf, openUnderOf, didOf, ClassSize};
-ghost use Rattle.sheet.specs.declared.Call.the-variants.{Change, Receive, Withdraw};
+ghost use Rattle.sheet.specs.Answers.{openOf, openUnderOf, ClassSize};
+ghost use Rattle.changes.specs.Calls.{didOf};
+ghost use Rattle.changes.specs.declared.Call.the-variants.{Change, Receive, Withdraw};
 ghost use Rattle.stored.specs.Answers.{ReadsBy};
 ghost use Rattle.stored.specs.declared.Layout.the-variants.{First};
 ghost use Rattle.listing.specs.Listing.{Listed, Totalled};
@@ -14,10 +15,10 @@ ghost use Rattle.pla.specs.Answers.{ReadsPla, WritesPla};
 ghost use Rattle.times.specs.Answers.{Answered};
 ghost use Rattle.vault.specs.Entries.{Put, ChangesBy, Changes, Tells, Judges, Lends, Compared, KeptAt, same, replied, noReply, noVerdict};
 ghost use Rattle.vault.specs.Parts.{AnswerTo, LaidAs};
+use changes::Call;
 use checking::Verdict;
 use classes::Standing;
 use sheet::Answer;
-use sheet::Call;
 use sheet::Sheet;
 use sheet::Value;
 use stored::Read;
@@ -75,7 +76,7 @@ fn change(sheet: &[u8], call: Call, out: &mut [u8]) -> Reply
         return unread(read);
     }
     let s = read.sheet;
-    put(s.did(call), out)
+    put(changes::did(s, call), out)
 }
 
 // What was read, written as it is; or the reading's refusal.

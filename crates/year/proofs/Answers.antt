@@ -8,7 +8,7 @@ use lib.Dec.{eqb}
 use Rattle.ground.proofs.Cases.{if, clash}
 use Rattle.dates.specs.declared.date.Date.{Date}
 use Rattle.sheet.specs.Record.{opened}
-use Rattle.sheet.specs.declared.Call.{Call}
+use Rattle.changes.specs.declared.Call.{Call}
 use Rattle.histories.specs.Histories.{numberOf, afterAll}
 use Rattle.machine.specs.Rows.{Row}
 use Rattle.machine.specs.Machine.{Onward, spoken}

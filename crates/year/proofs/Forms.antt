@@ -3,7 +3,7 @@ use Prim.Native.Nat.{ℕ}
 use mathlib.Core.Bool.{Bool, true, false}
 use mathlib.Core.List.{List}
 use Rattle.times.specs.declared.Form.{Form}
-use Rattle.sheet.specs.declared.Call.{Call}
+use Rattle.changes.specs.declared.Call.{Call}
 use Rattle.dates.specs.declared.date.Date.{Date}
 use Rattle.machine.specs.Rows.{Row, whole, rows, SameBut}
 use Rattle.machine.specs.Machine.{refusal, spoken}

@@ -11,12 +11,12 @@ use Rattle.ground.proofs.Areas.{wrote-none}
 use Rattle.dates.specs.declared.date.Date.{Date}
 use Rattle.sheet.specs.Limits.{mostMarks, entries}
 use Rattle.sheet.specs.Record.{sheetOf, opened}
-use Rattle.sheet.specs.Calls.{didOf}
 use Rattle.sheet.specs.declared.Sheet.{Sheet}
 use Rattle.sheet.specs.declared.Answer.{Answer}
 use Rattle.sheet.specs.declared.Value.{Value}
-use Rattle.sheet.specs.declared.Call.{Call}
-use Rattle.sheet.proofs.Tests.{marks-most}
+use Rattle.sheet.proofs.Limits.{marks-most}
+use Rattle.changes.specs.Calls.{didOf}
+use Rattle.changes.specs.declared.Call.{Call}
 use Rattle.listing.specs.Listing.{totalOf, Totalled}
 use Rattle.histories.specs.Histories.{numberOf, accepted, after, afterAll}
 use Rattle.histories.proofs.Kept.{did-kept}

@@ -18,7 +18,7 @@ use Rattle.print.proofs.Digits.{time-room}
 use Rattle.dates.specs.Texts.{digits}
 use Rattle.ground.proofs.Figures.{figures-length}
 use Rattle.dates.specs.declared.date.Date.{Date}
-use Rattle.sheet.specs.declared.Call.{Call}
+use Rattle.changes.specs.declared.Call.{Call}
 use Rattle.bookings.specs.Bookings.{on, History, monthTotal, lastDate, dateOk, withBooking}
 use Rattle.bookings.specs.Months.{Kept}
 use Rattle.bookings.proofs.Bookings.{month-before}

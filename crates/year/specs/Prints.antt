@@ -9,7 +9,7 @@ use Rattle.ground.specs.Texts.{ascii}
 use Rattle.print.specs.Texts.{clock}
 use Rattle.dates.specs.Texts.{digits}
 use Rattle.dates.specs.declared.date.Date.{Date}
-use Rattle.sheet.specs.declared.Call.{Call}
+use Rattle.changes.specs.declared.Call.{Call}
 use Rattle.machine.specs.Rows.{Row}
 use Rattle.machine.specs.Machine.{Machine, Output, refusal, spoken}
 use Rattle.times.specs.declared.Form.{Form}

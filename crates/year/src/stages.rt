@@ -13,13 +13,14 @@ ghost use Rattle.year.specs.Prints.{State, first, named, going, months};
 ghost use Rattle.year.specs.States.{In, isOver};
 ghost use Rattle.year.specs.Parts.{beginning, atStage, GoesOn, SteppedTo, AnswersSlip, TotalsTo, PageLaid, rowsRoom};
 use crate::page;
+use changes;
+use changes::Call;
 use dates::Date;
 use desk;
 use lines::Order;
 use listing;
 use machine;
 use machine::Line;
-use sheet::Call;
 use sheet::Sheet;
 use year_lines;
 use year_lines::Named;
@@ -181,7 +182,7 @@ fn undated(y: Year, call: Call, number: u64, out: &mut [u8]) -> Stepped
         return Stepped { year: y, wrote };
     }
     let old = y.sheet;
-    let a = old.did(call);
+    let a = changes::did(old, call);
     let wrote = machine::spoken(out, number, a.number);
     let sheet = a.sheet;
     let last = y.last;
@@ -209,7 +210,7 @@ fn on_day(y: Year, date: Date, call: Call, number: u64, out: &mut [u8]) -> Stepp
         return Stepped { year: begun, wrote };
     }
     let old = y.sheet;
-    let a = old.did(call);
+    let a = changes::did(old, call);
     let wrote = machine::spoken(out, number, a.number);
     if a.number != 0 {
         return Stepped { year: begun, wrote };

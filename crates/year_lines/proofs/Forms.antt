@@ -9,7 +9,7 @@ use Rattle.ground.proofs.Figures.{figures-without}
 use Rattle.times.specs.declared.Form.{Form}
 use Rattle.dates.specs.declared.date.Date.{Date}
 use Rattle.dates.specs.Texts.{digits, dateText}
-use Rattle.sheet.specs.declared.Call.{Call}
+use Rattle.changes.specs.declared.Call.{Call}
 use Rattle.lines.specs.Forms.{OtherForm}
 use Rattle.lines.specs.declared.Order.{Order}
 use Rattle.lines.proofs.Forms.{flip, has-colon, call-again, SameCall, other-asked}

@@ -5,7 +5,7 @@ use mathlib.Core.List.{List}
 use Rattle.dates.specs.declared.date.Date.{Date}
 use Rattle.dates.proofs.Numbers.{writes-same}
 use Rattle.dates.proofs.Dated.{dated-one}
-use Rattle.sheet.specs.declared.Call.{Call}
+use Rattle.changes.specs.declared.Call.{Call}
 use Rattle.machine.specs.Rows.{Row}
 use Rattle.times.specs.declared.Form.{Form}
 use Rattle.lines.specs.declared.Order.the-variants.{Make}

@@ -9,7 +9,7 @@ use Rattle.dates.specs.declared.date.Date.{Date}
 use Rattle.dates.specs.declared.reading.Dating.the-variants.{NoDate}
 use Rattle.dates.specs.Texts.{DatedBy, DatingOf}
 use Rattle.dates.proofs.Dated.{dated-rest, dated-one}
-use Rattle.sheet.specs.declared.Call.{Call}
+use Rattle.changes.specs.declared.Call.{Call}
 use Rattle.lines.specs.declared.Order.{Order}
 use Rattle.times.specs.declared.Form.{Form}
 use Rattle.lines.specs.declared.Order.the-variants.{Make}

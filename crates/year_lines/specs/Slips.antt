@@ -6,7 +6,7 @@ use Rattle.ground.specs.Texts.{ascii}
 use Rattle.dates.specs.declared.date.Date.{Date}
 use Rattle.dates.specs.Texts.{Writes, DatedBy}
 use Rattle.times.specs.declared.Form.{Form}
-use Rattle.sheet.specs.declared.Call.{Call}
+use Rattle.changes.specs.declared.Call.{Call}
 use Rattle.machine.specs.Rows.{Row, whole, spoiled}
 use Rattle.lines.specs.declared.Order.{Order}
 use Rattle.lines.specs.declared.Order.the-variants.{Make, Unreadable}

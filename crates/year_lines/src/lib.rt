@@ -2,6 +2,7 @@
 ghost use Prim.Native.Nat.{_≤_};
 ghost use Rattle.machine.specs.AtHand.{rowOf, LineFits};
 ghost use Rattle.year_lines.specs.Slips.{NamesYear, RowNames, Asked, RowAsks};
+use changes::Call;
 use dates;
 use dates::Date;
 use dates::Dating;
@@ -9,7 +10,6 @@ use dates::Number;
 use lines;
 use lines::Order;
 use machine::Line;
-use sheet::Call;
 use times::Form;
 
 // What line 1 says.

@@ -3,7 +3,7 @@ use mathlib.Core.Path.{_≡_}
 use native.Mathlib.Omega.{arith}
 use lib.ListN.{length}
 use borrow.Author.Needs.{needs}
-use Rattle.sheet.proofs.Tests.{marks-most}
+use Rattle.sheet.proofs.Limits.{marks-most}
 use Rattle.sheet.specs.Limits.{entries, mostMarks}
 use Rattle.checking.specs.Answers.Checked.{judged}
 use Rattle.checking.proofs.Faults.{judged-told}

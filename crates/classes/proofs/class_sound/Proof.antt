@@ -5,10 +5,9 @@ use mathlib.Core.Path.{_≡_, sym, _∙_}
 use native.Mathlib.Omega.{arith}
 use borrow.Author.Needs.{needs}
 use Rattle.ground.specs.Decides.{Decides}
-use Rattle.ground.proofs.Cases.{decided-no, denied}
+use Rattle.ground.proofs.Cases.{decided-no, denied, decided-both}
 use Rattle.profiles.specs.Profiles.{profileOk}
 use Rattle.classes.specs.Sound.{CountsSound}
-use Rattle.ground.proofs.Cases.{decided-both}
 use Rattle.classes.proofs.class_sound.Statement.{statement}
 use Rattle.classes.proofs.class_sound.Tie as tie
 

@@ -5,9 +5,8 @@ use mathlib.Core.Path.{_∙_}
 use native.Mathlib.Omega.{arith}
 use borrow.Author.Needs.{needs}
 use Rattle.ground.specs.Decides.{Decides}
-use Rattle.ground.proofs.Cases.{decided-no, denied}
+use Rattle.ground.proofs.Cases.{decided-no, denied, decided-both}
 use Rattle.tables.specs.Tables.{entry, own, Sums}
-use Rattle.ground.proofs.Cases.{decided-both}
 use Rattle.classes.proofs.counts_sound.Statement.{statement}
 use Rattle.classes.proofs.counts_sound.Tie as tie
 

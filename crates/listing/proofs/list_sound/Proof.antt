@@ -5,7 +5,7 @@ use lib.ListN.{length}
 use borrow.Author.Needs.{needs}
 use Rattle.listing.specs.Listing.Listed.{short, given}
 use Rattle.listing.proofs.Given.{laid-told, within-told}
-use Rattle.sheet.proofs.Tests.{marks-most}
+use Rattle.sheet.proofs.Limits.{marks-most}
 use Rattle.sheet.proofs.Told.{in-not-out}
 use Rattle.sheet.specs.Limits.{entries, mostMarks}
 use Rattle.sheet.specs.Sound.{recordOf}

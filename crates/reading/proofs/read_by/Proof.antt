@@ -7,7 +7,7 @@ use native.Mathlib.Omega.{arith}
 use borrow.Author.Tests.{not-true, not-false}
 use borrow.Author.Needs.{needs}
 use lib.ListN.{replicate}
-use Rattle.sheet.proofs.Tests.{marks-most}
+use Rattle.sheet.proofs.Limits.{marks-most}
 use Rattle.sheet.proofs.Opening.{ones-addable, same-entry}
 use Rattle.sheet.specs.Limits.{mostMarks, marksOk}
 use Rattle.sheet.specs.Record.{Record, opened}

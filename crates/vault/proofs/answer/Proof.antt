@@ -1,7 +1,7 @@
 -- Each arm is one value of a sound sheet.
 use mathlib.Core.Path.{sym, subst}
 use borrow.Author.Needs.{needs}
-use Rattle.sheet.proofs.Keeps.{class-of-ready}
+use Rattle.sheet.proofs.Ready.{class-of-ready}
 use Rattle.vault.specs.declared.Question.{Question}
 use Rattle.vault.specs.Parts.{AnswerTo}
 use Rattle.vault.proofs.Replies.{size-answered, total-answered}

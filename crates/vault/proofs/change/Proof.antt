@@ -5,7 +5,7 @@ use Rattle.stored.specs.declared.Layout.the-variants.{Today}
 use Rattle.sheet.specs.Limits.{mostMarks}
 use Rattle.sheet.specs.Sound.{Ready}
 use Rattle.sheet.specs.declared.Answer.{Answer}
-use Rattle.sheet.proofs.Keeps.{ready-kept}
+use Rattle.changes.proofs.Keeps.{ready-kept}
 use Rattle.vault.specs.Entries.ChangesBy.{unread}
 use Rattle.vault.specs.Entries.{noReply}
 use Rattle.vault.proofs.Replies.{holds, holds-none, holds-long, holds-ready, put-called}

@@ -1,7 +1,7 @@
 -- The bytes hold a sound sheet, or none.
 use borrow.Author.Needs.{needs}
 use Rattle.stored.specs.declared.Layout.the-variants.{Today}
-use Rattle.sheet.proofs.Keeps.{class-of-ready}
+use Rattle.sheet.proofs.Ready.{class-of-ready}
 use Rattle.vault.specs.Entries.Lends.{unread}
 use Rattle.vault.specs.Parts.{LaidAs}
 use Rattle.vault.specs.Entries.{noReply}

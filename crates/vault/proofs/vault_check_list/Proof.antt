@@ -2,7 +2,7 @@
 use borrow.Author.Needs.{needs}
 use Rattle.stored.specs.declared.Layout.the-variants.{Today}
 use Rattle.sheet.specs.Limits.{mostMarks}
-use Rattle.sheet.proofs.Keeps.{class-of-ready}
+use Rattle.sheet.proofs.Ready.{class-of-ready}
 use Rattle.checking.specs.Answers.{Checked, verdictOf}
 use Rattle.vault.specs.Entries.{noVerdict}
 use Rattle.vault.specs.Entries.TellsAs.{unread}

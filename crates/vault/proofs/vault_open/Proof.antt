@@ -4,7 +4,7 @@ use borrow.Author.Needs.{needs}
 use Rattle.sheet.specs.Limits.{mostMarks}
 use Rattle.sheet.specs.Sound.{Ready}
 use Rattle.sheet.specs.declared.Answer.{Answer}
-use Rattle.sheet.proofs.Keeps.{open-ready}
+use Rattle.sheet.proofs.Opened.{open-ready}
 use Rattle.vault.proofs.Replies.{put-as}
 use Rattle.vault.proofs.vault_open.Statement.{statement}
 use Rattle.vault.proofs.vault_open.Tie as tie

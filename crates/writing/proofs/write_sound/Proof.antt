@@ -6,7 +6,7 @@ use lib.ListN.{length}
 use borrow.Author.Needs.{needs}
 use Rattle.sheet.specs.Limits.{mostMarks, entries}
 use Rattle.sheet.specs.Sound.{recordOf}
-use Rattle.sheet.proofs.Tests.{marks-most}
+use Rattle.sheet.proofs.Limits.{marks-most}
 use Rattle.stored.specs.Form.{profileBytes, form}
 use Rattle.stored.specs.Answers.{short}
 use Rattle.stored.specs.declared.Section.the-variants.{Class, Either, Held}

@@ -3,7 +3,7 @@ use mathlib.Core.Path.{sym, _∙_}
 use borrow.Author.Needs.{needs}
 use Rattle.ground.proofs.Cases.{clash, decided-no}
 use Rattle.sheet.specs.Limits.{entries}
-use Rattle.sheet.specs.Promises.{Long}
+use Rattle.sheet.specs.Entries.{Long}
 use Rattle.sheet.specs.Record.{outside-counts, either-counts, held-seconds}
 use Rattle.sheet.proofs.Over.{sheet-over}
 use Rattle.sheet.proofs.Sheet.class_ready.Statement.{statement}

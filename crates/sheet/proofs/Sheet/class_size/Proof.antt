@@ -6,7 +6,7 @@ use borrow.Author.Tests.{not-true, not-false}
 use Rattle.ground.proofs.Cases.{denied}
 use Rattle.sheet.specs.Limits.{mostMarks}
 use Rattle.sheet.specs.Sound.{ClassReady}
-use Rattle.sheet.specs.Calls.{ClassSize, spoiled, told}
+use Rattle.sheet.specs.Answers.{ClassSize, spoiled, told}
 use Rattle.sheet.proofs.Sheet.class_size.Statement.{statement}
 use Rattle.sheet.proofs.Sheet.class_size.Tie as tie
 

@@ -3,7 +3,7 @@ use mathlib.Core.Path.{sym, _∙_, ap}
 use borrow.Author.Needs.{needs}
 use Rattle.sheet.specs.Limits.{entries, mostMarks}
 use Rattle.sheet.proofs.Answers.{open-done, open-refused}
-use Rattle.sheet.proofs.Tests.{marks-most}
+use Rattle.sheet.proofs.Limits.{marks-most}
 use Rattle.sheet.specs.declared.Sheet.{Sheet}
 use Rattle.sheet.proofs.Sheet.open.Statement.{statement}
 use Rattle.sheet.proofs.Sheet.open.Tie as tie

@@ -9,7 +9,7 @@ use Rattle.sheet.specs.Limits.{entries, mostMarks, marksOk}
 use Rattle.sheet.specs.Record.{sheetOf, openedUnder}
 use Rattle.sheet.specs.declared.Sheet.{Sheet}
 use Rattle.sheet.proofs.Answers.{open-under-refused, open-under-faulty, open-under-done}
-use Rattle.sheet.proofs.Tests.{marks-most}
+use Rattle.sheet.proofs.Limits.{marks-most}
 use Rattle.sheet.proofs.Sheet.open_under.Statement.{statement}
 use Rattle.sheet.proofs.Sheet.open_under.Tie as tie
 

@@ -2,9 +2,9 @@
 use borrow.Author.Needs.{needs}
 use Rattle.ground.proofs.Cases.{denied, decided-no}
 use Rattle.sheet.specs.Limits.{entries}
-use Rattle.sheet.specs.Promises.{Long}
+use Rattle.sheet.specs.Entries.{Long}
 use Rattle.sheet.specs.Record.{outside-counts, either-counts, held-seconds}
-use Rattle.sheet.proofs.Keeps.{class-of-ready}
+use Rattle.sheet.proofs.Ready.{class-of-ready}
 use Rattle.sheet.proofs.Over.{sheet-over}
 use Rattle.sheet.proofs.Sheet.ready.Statement.{statement}
 use Rattle.sheet.proofs.Sheet.ready.Tie as tie

@@ -8,7 +8,7 @@ use Rattle.sheet.specs.Record.{inClass}
 use Rattle.sheet.specs.Sound.{recordOf, sizeOf}
 use Rattle.sheet.specs.Limits.{entries, mostMarks}
 use Rattle.sheet.proofs.Classes.{size-counted}
-use Rattle.sheet.proofs.Tests.{marks-most, boxes-fit}
+use Rattle.sheet.proofs.Limits.{marks-most, boxes-fit}
 use borrow.Author.Needs.{needs}
 use Rattle.sheet.proofs.Sheet.size_sound.Statement.{statement}
 use Rattle.sheet.proofs.Sheet.size_sound.Tie as tie
