@@ -147,9 +147,9 @@ struct vault_reply plain_copy(const uint8_t *sheet, size_t n, uint8_t *out, size
 /* The list of a class, whose lines may contain the either combinations too. */
 static struct vault_reply searched(unsigned marks, uint32_t class, uint32_t either, uint8_t *list, size_t room)
 {
-    uint8_t own[VAULT_LIST_SIZE + 1];
+    uint8_t own[VAULT_LIST_SIZE];
     uint64_t laid = 0;
-    if (room < VAULT_COMBINATIONS(marks))
+    if (room < VAULT_LIST_ROOM(marks))
         return reply(VAULT_ROOM, 0, 0);
     size_t k = plain_shortest(marks, class, class | either, own, &laid);
     memcpy(list, own, k);

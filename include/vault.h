@@ -67,7 +67,7 @@ extern "C" {
 
 /* The version, as three numbers and as text with dots between. The three lines are its one source: Makefile and vault.pc take it from here. */
 #define VAULT_VERSION_MAJOR 4
-#define VAULT_VERSION_MINOR 0
+#define VAULT_VERSION_MINOR 1
 #define VAULT_VERSION_PATCH 0
 #define VAULT_DOTTED(a, b, c) #a "." #b "." #c
 #define VAULT_DOTTED_VALUES(a, b, c) VAULT_DOTTED(a, b, c)
@@ -114,17 +114,21 @@ enum vault_fault {
 #define VAULT_MOST_HELD 4000000000u  /* seconds of a sheet */
 
 /*
- * Room that always suffices: for a stored form, 7 + 6 * 32 bytes, for a list, and for a PLA text that is written, of 16 cubes of five marks. A profile
+ * Room that always suffices: for a stored form, 7 + 6 * 32 bytes, for a list, of 16 lines, and for a PLA text of 16 cubes of five marks. A profile
  * makes no form longer than that: under one, half of the combinations at least are either and hold nothing, so that such a form has no more than
  * 7 + 32 + 5 * 16 + 3 = 122 bytes. A form of version 2 or before, which vault_from_form1 reads, has no more than 5 + 6 * 32 bytes.
  */
 #define VAULT_FORM_SIZE 199
-#define VAULT_LIST_SIZE 32
+#define VAULT_LIST_SIZE 16
 #define VAULT_PLA_SIZE 147
 #define VAULT_FORM1_SIZE 197
 
-/* The combinations, 2^m, and the lines, 3^m, of a sheet of m marks, m from 1 to 5: 2, 4, 8, 16, 32 and 3, 9, 27, 81, 243. */
+/*
+ * The combinations, 2^m, and the lines, 3^m, of a sheet of m marks, m from 1 to 5: 2, 4, 8, 16, 32 and 3, 9, 27, 81, 243; and the room that its list
+ * asks for, 2^(m - 1): 1, 2, 4, 8, 16. No class of m marks needs more lines than that, whatever is either, and some class needs as many.
+ */
 #define VAULT_COMBINATIONS(m) (1u << (m))
+#define VAULT_LIST_ROOM(m) (1u << ((m) - 1))
 #define VAULT_LINES(m) ((m) == 1 ? 3u : (m) == 2 ? 9u : (m) == 3 ? 27u : (m) == 4 ? 81u : 243u)
 
 struct vault_reply {
@@ -228,7 +232,8 @@ struct vault_reply vault_from_form1(const uint8_t *old, size_t old_size, uint8_t
 
 /*
  * Writes the list of the class, one byte for each line's number. Value: the number of lines, 0 for an empty class.
- * Refused: reading's answer; VAULT_ROOM if the area has fewer than 2^m bytes, however short the list is.
+ * Refused: reading's answer; VAULT_ROOM if the area has fewer than 2^(m - 1) bytes, VAULT_LIST_ROOM(m), however short the list is:
+ * for one mark, one byte, even for an empty class.
  */
 struct vault_reply vault_list(const uint8_t *sheet, size_t sheet_size, uint8_t *list, size_t list_size);
 

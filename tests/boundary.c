@@ -539,7 +539,7 @@ static void listing(void)
         int now = 0;
         for (int k = 0; k < known[i].size; k++, now = !now)
             n = (size_t)vault_enter(form[now], n, known[i].class[k], form[!now], VAULT_FORM_SIZE).value;
-        writes((struct call){LIST, form[now], n, 0, 0}, known[i].list, known[i].lines, VAULT_COMBINATIONS(known[i].marks));
+        writes((struct call){LIST, form[now], n, 0, 0}, known[i].list, known[i].lines, VAULT_LIST_ROOM(known[i].marks));
         check(is(vault_class_size(form[now], n), VAULT_DONE, 0, (uint64_t)known[i].size), "class size", (long)i);
         check(is(vault_total(form[now], n), VAULT_DONE, 0, 0), "nothing held", (long)i);
     }
@@ -584,10 +584,10 @@ static void listing_either(void)
     uint8_t form[VAULT_FORM_SIZE];
     for (size_t i = 0; i < sizeof known / sizeof *known; i++) {
         size_t n = drawn_with(form, known[i].marks, known[i].class, known[i].either);
-        writes((struct call){LIST, form, n, 0, 0}, known[i].list, known[i].lines, VAULT_COMBINATIONS(known[i].marks));
+        writes((struct call){LIST, form, n, 0, 0}, known[i].list, known[i].lines, VAULT_LIST_ROOM(known[i].marks));
         check(vault_check_list(form, n, known[i].list, known[i].lines).fault == VAULT_FITS, "it fits", (long)i);
     }
-    writes((struct call){LIST, mixed, sizeof mixed, 0, 0}, (const uint8_t[]){1}, 1, 4);
+    writes((struct call){LIST, mixed, sizeof mixed, 0, 0}, (const uint8_t[]){1}, 1, 2);
 }
 
 /* The kept numbers of every line of a sheet with every standing, by the digits of its number. */
@@ -2392,7 +2392,7 @@ static void lists_under(void)
     for (size_t i = 0; i < sizeof t / sizeof *t; i++) {
         const struct profile *p = &t[i].p;
         size_t n = drawn_under(form, p, t[i].class, t[i].either | breaking(p->marks, p->groups, p->n));
-        writes((struct call){LIST, form, n, 0, 0}, t[i].list, t[i].lines, VAULT_COMBINATIONS(p->marks));
+        writes((struct call){LIST, form, n, 0, 0}, t[i].list, t[i].lines, VAULT_LIST_ROOM(p->marks));
         check(judged(verdict(form, n, t[i].list, t[i].lines), VAULT_DONE, 0, VAULT_FITS, 0), "it fits under a profile", (long)i);
     }
 }
@@ -2421,7 +2421,7 @@ static void told_under(void)
     }
     check(is(vault_class_size(stocked, sizeof stocked), VAULT_DONE, 0, 2), "class size under a profile", 0);
     check(is(vault_total(stocked, sizeof stocked), VAULT_DONE, 0, 240), "total under a profile", 0);
-    writes((struct call){LIST, stocked, sizeof stocked, 0, 0}, (const uint8_t[]){8}, 1, 8);
+    writes((struct call){LIST, stocked, sizeof stocked, 0, 0}, (const uint8_t[]){8}, 1, 4);
 }
 
 /* PLA texts and old forms have no profile: behind an old form one is left over, and what is opened under one is no old form. */
@@ -2469,15 +2469,16 @@ static void carrier_profiles(void)
     without_profile();
 }
 
-/* ---- a list always exists */
+/* ---- a list always exists, and half as many bytes as there are combinations have room for it */
 
-/* The sheet gets a list that fits in an area of 2^m bytes, and 5 in one of a byte less. */
+/* The sheet gets a list that fits, in an area of 2^(m - 1) bytes, and 5 in one of a byte less. */
 static void has_list(const uint8_t *form, size_t n, uint64_t marks, long which)
 {
     uint8_t list[VAULT_LIST_SIZE];
-    size_t room = VAULT_COMBINATIONS(marks);
+    size_t room = VAULT_LIST_ROOM(marks);
     struct vault_reply r = vault_list(form, n, list, room);
-    check(r.answer == VAULT_DONE && judged(verdict(form, n, list, (size_t)r.value), VAULT_DONE, 0, VAULT_FITS, 0), "every sheet has a list", which);
+    check(r.answer == VAULT_DONE && r.value <= room, "every sheet has a list", which);
+    check(judged(verdict(form, n, list, (size_t)r.value), VAULT_DONE, 0, VAULT_FITS, 0), "that fits", which);
     check(is(vault_list(form, n, list, room - 1), VAULT_ROOM, 0, 0), "which asks for room", which);
 }
 
@@ -2498,6 +2499,48 @@ static void always_a_list(void)
             if (class == 0)
                 break;
         }
+    }
+}
+
+/* The line of one combination alone: its digits are the marks. */
+static uint8_t alone(uint32_t c)
+{
+    uint8_t line = 0;
+    for (int i = VAULT_MOST_MARKS - 1; i >= 0; i--)
+        line = (uint8_t)(line * 3 + (c >> i & 1));
+    return line;
+}
+
+/* The combinations with an even number of marks on, or those with an odd number: no line has two of them, so that their list fills the room. */
+static void fills(uint64_t marks, int odd)
+{
+    uint8_t form[VAULT_FORM_SIZE], want[VAULT_LIST_SIZE];
+    uint32_t class = 0;
+    size_t lines = 0;
+    for (uint32_t c = 0; c < VAULT_COMBINATIONS(marks); c++)
+        if (__builtin_popcount(c) % 2 == odd) {
+            class |= UINT32_C(1) << c;
+            want[lines++] = alone(c);
+        }
+    check(lines == VAULT_LIST_ROOM(marks), "half of the combinations", (long)marks);
+    writes((struct call){LIST, form, drawn_with(form, marks, class, 0), 0, 0}, want, lines, lines);
+}
+
+/* Both sides of the limit for every number of marks, at every length: with no line, with one, with as many as there are; with all either; one mark
+   asks for a byte, also of an empty class. */
+static void list_room(void)
+{
+    static const uint8_t none[VAULT_LIST_SIZE];
+    uint8_t form[VAULT_FORM_SIZE];
+    check(VAULT_LIST_SIZE == VAULT_LIST_ROOM(VAULT_MOST_MARKS) && VAULT_LIST_ROOM(1) == 1, "the room that always suffices", 0);
+    for (uint64_t marks = 1; marks <= VAULT_MOST_MARKS; marks++) {
+        uint32_t all = UINT32_MAX >> (32 - VAULT_COMBINATIONS(marks));
+        uint8_t free_line = (uint8_t)(VAULT_LINES(marks) - 1);
+        writes((struct call){LIST, form, drawn_with(form, marks, 0, 0), 0, 0}, none, 0, VAULT_LIST_ROOM(marks));
+        writes((struct call){LIST, form, drawn_with(form, marks, 0, all), 0, 0}, none, 0, VAULT_LIST_ROOM(marks));
+        writes((struct call){LIST, form, drawn_with(form, marks, all, 0), 0, 0}, &free_line, 1, VAULT_LIST_ROOM(marks));
+        fills(marks, 0);
+        fills(marks, 1);
     }
 }
 
@@ -2577,6 +2620,7 @@ int main(void)
     pla();
     carrier_profiles();
     always_a_list();
+    list_room();
     threads();
     printf("boundary: %d checks, %d failed\n", checks, faults);
     return faults != 0;

@@ -459,7 +459,7 @@ impl Tests {
     fn list(&mut self) -> Call {
         let form = self.form();
         let read = Sheet::read(&form);
-        let needed = read.as_ref().map_or(32, |s| s.size()) as usize;
+        let needed = read.as_ref().map_or(16, |s| s.list_room()) as usize;
         let written = read.map(|s| self.lists.first_shortest(&s));
         let room = self.room(needed);
         self.writing(6, [0, 0], Some(form), written, needed, room)
@@ -468,8 +468,8 @@ impl Tests {
     /// The list of a class, into an area of just the size for it.
     fn list_of(&mut self, sheet: &Sheet) -> Call {
         let written = self.lists.first_shortest(sheet);
-        let room = self.r.bytes(sheet.size());
-        self.writing(6, [0, 0], Some(sheet.form()), Ok(written), sheet.size() as usize, room)
+        let room = self.r.bytes(sheet.list_room());
+        self.writing(6, [0, 0], Some(sheet.form()), Ok(written), sheet.list_room() as usize, room)
     }
 
     fn told(&mut self, entry: usize) -> Call {

@@ -205,6 +205,11 @@ impl Sheet {
         self.standing.len() as u64
     }
 
+    /// The bytes that its list asks for, however short that is: one for every two combinations.
+    pub fn list_room(&self) -> u64 {
+        self.size() / 2
+    }
+
     pub fn read(bytes: &[u8]) -> Result<Sheet, Reply> {
         let (mut fields, mut sheet) = Self::read_sections(bytes, &[Standing::In, Standing::Either])?;
         fields.profile(&mut sheet)?;

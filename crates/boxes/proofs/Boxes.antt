@@ -40,14 +40,14 @@ contains-all (suc m) c l =
 
 -- one digit of a box
 
-contains-even : (m b c : ℕ) → contains (suc m) b (c * 2) ≡ (agrees (b % 3) 0 && contains m (b / 3) c)
+pub contains-even : (m b c : ℕ) → contains (suc m) b (c * 2) ≡ (agrees (b % 3) 0 && contains m (b / 3) c)
 unfolding contains
 contains-even m b c =
     let e : c * 2 % 2 ≡ 0 = omega arith in
     let h : c * 2 / 2 ≡ c = omega arith in
     rw (e, h)
 
-contains-odd : (m b c : ℕ) → contains (suc m) b (c * 2 + 1) ≡ (agrees (b % 3) 1 && contains m (b / 3) c)
+pub contains-odd : (m b c : ℕ) → contains (suc m) b (c * 2 + 1) ≡ (agrees (b % 3) 1 && contains m (b / 3) c)
 unfolding contains
 contains-odd m b c =
     let e : (c * 2 + 1) % 2 ≡ 1 = omega arith in

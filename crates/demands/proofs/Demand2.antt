@@ -1,16 +1,19 @@
 -- What the contract of `list` says of the list it gives, and what follows of every first shortest list.
-use Prim.Native.Nat.{ℕ, suc, _-_, _^_, _≤_}
+use Prim.Native.Nat.{ℕ, _<_, _≤_}
 use mathlib.Core.Path.{_≡_, refl, sym, _∙_, ap, subst, transport, fun-ext}
-use mathlib.Core.Bool.{Bool, false, not}
+use mathlib.Core.Bool.{Bool, false, not, false≢true}
 use mathlib.Core.List.{List}
 use native.Mathlib.Omega.{arith}
+use lib.Dec.{eqb}
 use lib.ListN.{length}
+use Rattle.ground.specs.Decides.{Decides}
 use Rattle.boxes.specs.Sums.{sumOver}
 use Rattle.tables.specs.Tables.{entry}
 use Rattle.ground.proofs.Cases.{if, clash}
-use Rattle.lists.specs.Lists.{covered, Fits, Small, FirstShortest}
+use Rattle.lists.specs.Lists.{covered, Fits, Small, FirstShortest, mostLines}
 use Rattle.lists.proofs.Class.{rising-same}
-use Rattle.lists.proofs.Exist.{exists, at-most-half}
+use Rattle.lists.proofs.Evens.{reached}
+use Rattle.lists.proofs.Exist.{exists, at-most}
 use Rattle.lists.proofs.First.{unique}
 use Rattle.lists.proofs.Pottosin.{fits-independent, first-smallest}
 use Rattle.classes.specs.Standings.{isIn, isOut, isEither}
@@ -18,7 +21,7 @@ use Rattle.classes.specs.declared.Standing.{Standing}
 use Rattle.classes.specs.declared.Standing.the-variants.{In, Out, Either}
 use Rattle.sheet.specs.Limits.{mostMarks}
 use Rattle.sheet.specs.Record.{Record, inClass, notOut, NoneEither}
-use Rattle.sheet.proofs.Limits.{some-marks}
+use Rattle.sheet.proofs.Ready.{class-of-ready}
 use Rattle.sheet.proofs.Told.{in-not-out}
 use Rattle.sheet.specs.Sound.{ClassReady, recordOf}
 use Rattle.sheet.specs.declared.Sheet.{Sheet}
@@ -26,7 +29,11 @@ use Rattle.sheet.specs.declared.Value.{Value}
 use Rattle.listing.specs.Listing.{totalOf, Listed, Totalled}
 use Rattle.listing.proofs.Laid.{class-small, list-laid}
 use Rattle.listing.proofs.Lines.{kept-total}
-use Rattle.vault.specs.Entries.{Lends}
+use Rattle.stored.specs.Fields.{Bytes}
+use Rattle.stored.specs.declared.Layout.the-variants.{Today}
+use Rattle.vault.specs.Entries.{Holds, Lends}
+use Rattle.vault.proofs.Replies.{holds-ready}
+use Rattle.vault.proofs.Settled.{one-sheet, not-both, stored-alone}
 use Rattle.vault.specs.declared.Reply.{Reply}
 use Rattle.demands.specs.Demand2.{Lines, Printed, PrintedIn, Demand2}
 
@@ -52,25 +59,28 @@ covers-class {m} {class} {l} f c =
 some-fits : (r : Record) → Small (r .marks) (inClass r) → (l : List ℕ) × Fits (r .marks) (inClass r) (notOut r) l
 some-fits r small = let x = exists (r .marks) (inClass r) (notOut r) small (in-not-out r) in (x .0, x .1)
 
-lines : (r : Record) (l : List ℕ) → 1 ≤ r .marks → Small (r .marks) (inClass r) → FirstShortest (r .marks) (inClass r) (notOut r) l → Lines r l
-lines r l some small f =
+lines : (r : Record) (l : List ℕ) → Small (r .marks) (inClass r) → FirstShortest (r .marks) (inClass r) (notOut r) l → Lines r l
+lines r l small f =
     let m = r .marks in
-    let e : m ≡ suc (m - 1) = omega arith in
     record {
       right = f;
       one = λ k g. unique g f;
-      few = at-most-half (m - 1) (subst (λ (n : ℕ). Small n (inClass r)) e small) (subst (λ (n : ℕ). FirstShortest n (inClass r) (notOut r) l) e f);
       exactly = λ plain. covers-class (class-list r l plain f .fits);
       rising = λ plain. transport (rising-same m (inClass r) l (fits-independent m (inClass r) (class-list r l plain f .fits))) (f .rising);
       form = λ plain. first-smallest m (inClass r) l small (class-list r l plain f);
     }
 
 module _ (s : Sheet) where
-  pub class-lines : {l : List ℕ} → ClassReady mostMarks s → FirstShortest (s .marks) (inClass (recordOf s)) (notOut (recordOf s)) l → Lines (recordOf s) l
-  class-lines {l} w f = lines (recordOf s) l (some-marks mostMarks (s .marks) (w .marks)) (class-small s) f
+  pub class-lines : {l : List ℕ} → FirstShortest (s .marks) (inClass (recordOf s)) (notOut (recordOf s)) l → Lines (recordOf s) l
+  class-lines {l} f = lines (recordOf s) l (class-small s) f
 
-  given : {area later : List ℕ} {v : Value} → Listed mostMarks s area v later → ClassReady mostMarks s → 2 ^ s .marks ≤ length area → v .number ≡ 0
+  given : {area later : List ℕ} {v : Value} → Listed mostMarks s area v later → ClassReady mostMarks s → mostLines (s .marks) ≤ length area → v .number ≡ 0
   given w r l = list-laid w r l .0
+
+  five : {area later : List ℕ} {v : Value} → Listed mostMarks s area v later → ClassReady mostMarks s → Decides (eqb (v .number) 5) (length area < mostLines (s .marks))
+  five (Listed.spoiled n) r = absurd (n r)
+  five (Listed.short w l) r = record { yes = λ e. l; sure = λ p. refl }
+  five (Listed.given w l x) r = record { yes = λ e. absurd (false≢true e); sure = λ p. absurd (omega arith) }
 
   total : {v : Value} → Totalled mostMarks s v → v .number ≡ 0 → v .value ≡ totalOf (recordOf s)
   total (Totalled.spoiled n) e = absurd (omega arith)
@@ -86,7 +96,7 @@ module _ (s : Sheet) where
   printed (Listed.short w h) e = absurd (omega arith)
   printed (Listed.given w h l) e = record {
     lines = l .list;
-    of-class = class-lines w (l .right);
+    of-class = class-lines (l .right);
     size = l .size;
     stands = l .stands;
     seconds = λ t. seconds (l .right) t;
@@ -96,5 +106,22 @@ entry-printed : {t area later : List ℕ} {r : Reply} → Lends (Listed mostMark
 entry-printed (Lends.unread u) z = absurd (u .bad (sym (ap (λ (x : Reply). x .answer) (u .reply)) ∙ z))
 entry-printed (Lends.lent {s = s} h w) z = record { sheet = s; held-in = h; printed = printed s w z }
 
+entry-five : {t area later : List ℕ} {r : Reply} {s : Sheet} → Bytes t → Holds t s → Lends (Listed mostMarks) t area r later
+    → Decides (eqb (r .answer) 5) (length area < mostLines (s .marks))
+entry-five {t} b h (Lends.unread u) = absurd (not-both (stored-alone t) u h)
+entry-five {t} {area} {s = s} b h (Lends.lent {v = v} q w) =
+    subst (λ (x : Sheet). Decides (eqb (v .number) 5) (length area < mostLines (x .marks))) (one-sheet (stored-alone t) q h) (five _ w (subst (ClassReady mostMarks) (q .sheet) (class-of-ready (holds-ready Today t b (q .reads)))))
+
 pub demand-2 : Demand2
-demand-2 = record { exists = some-fits; of-sheet = λ s. some-fits (recordOf s) (class-small s); given = λ {s} w. given s w; printed = λ {s} w. printed s w; entry = entry-printed; total = λ {s} w. total s w }
+demand-2 = record {
+  exists = some-fits;
+  of-sheet = λ s. some-fits (recordOf s) (class-small s);
+  few = λ r small f. at-most (r .marks) small f;
+  reached = reached;
+  given = λ {s} w. given s w;
+  five = λ {s} w. five s w;
+  printed = λ {s} w. printed s w;
+  entry = entry-printed;
+  entry-five = entry-five;
+  total = λ {s} w. total s w;
+}

@@ -9,6 +9,7 @@ use Rattle.ground.proofs.Cases.{if, below-or, and-right}
 use Rattle.boxes.specs.Boxes.{sumIn}
 use Rattle.boxes.proofs.Boxes.{sumIn-nothing}
 use Rattle.boxes.proofs.Count.{boxes-through}
+use Rattle.lists.specs.Lists.{mostLines}
 use Rattle.tables.specs.Tables.{entry, afresh}
 use Rattle.tables.proofs.Entries.{afresh-entry, tab-length}
 use Rattle.profiles.specs.Profiles.{countOk, profileOf, namesOk}
@@ -87,7 +88,7 @@ module _ (r : Record) (g : Good r) where
   told call n is (TellsAs.told {a = v} h w) =
       ap (λ (x : Value). replied (x .number) (x .value)) (is v (subst (λ (s : Sheet). call s v) (holds-record r g h) w))
 
-  lent : {area later : List ℕ} {reply : Reply} → 2 ^ r .marks ≤ length area → Lends (Listed mostMarks) (form r) area reply later
+  lent : {area later : List ℕ} {reply : Reply} → mostLines (r .marks) ≤ length area → Lends (Listed mostMarks) (form r) area reply later
       → (reply .place ≡ 0) × Given r area (record { number = reply .answer; value = reply .value }) later
   lent l (Lends.unread u) = absurd (holds-some r g u)
   lent {area} {later} l (Lends.lent {v = v} h w) =

@@ -165,7 +165,7 @@ written {s} {out} (WritesPla.written {l} w f h) z =
     let says = pla-back mostMarks (s .marks) (w .marks) l (f .fits .boxes) in
     record {
       lines = l;
-      of-class = class-lines s w f;
+      of-class = class-lines s f;
       size = refl;
       stands = refl;
       back = λ x. gives-back s l (f .fits) (w .marks) (subst (λ (y : List ℕ). PlaSays mostMarks y (good (again s l (f .fits)))) (sym front) says) x;

@@ -6,6 +6,7 @@ use mathlib.Core.List.{List}
 use lib.ListN.{length, take}
 use Rattle.boxes.specs.Boxes.{contains, sumIn}
 use Rattle.boxes.specs.Sums.{sum, only}
+use Rattle.lists.specs.Lists.{mostLines}
 use Rattle.tables.specs.Tables.{entry}
 use Rattle.profiles.specs.Profiles.{profileOf}
 use Rattle.sheet.specs.Limits.{mostMarks, entries}
@@ -48,7 +49,7 @@ pub record WorkedOut (r : Record) (s : Sheet) : Type 0 where
   pub profile : s .profile ≡ r .profile
   pub each-kept : (t : Table) (b : ℕ) → b < 3 ^ r .marks → entry (kept t s) b ≡ sumIn (r .marks) b (quantity t r)
   pub above : (t : Table) (b : ℕ) → 3 ^ r .marks ≤ b → entry (kept t s) b ≡ 0
-  pub list : {area later : List ℕ} {v : Value} → 2 ^ r .marks ≤ length area → Listed mostMarks s area v later → Given r area v later
+  pub list : {area later : List ℕ} {v : Value} → mostLines (r .marks) ≤ length area → Listed mostMarks s area v later → Given r area v later
   pub total : {v : Value} → Totalled mostMarks s v → v ≡ record { number = 0; value = totalOf r }
   pub class-size : {v : Value} → ClassSize mostMarks s v → v ≡ record { number = 0; value = sizeOf (r .marks) (inClass r) }
 
@@ -68,7 +69,7 @@ pub data BeginsIn : List ℕ → Record → Type 0 where
 pub record WorkedOutIn (r : Record) (t : List ℕ) : Type 0 where
   -- of a number that is no box's the sum is 0
   pub each-kept : (k : Table) (b : ℕ) {reply : Reply} → Tells (KeptAt k b) t reply → reply ≡ replied 0 (sumIn (r .marks) b (quantity k r))
-  pub list : {area later : List ℕ} {reply : Reply} → 2 ^ r .marks ≤ length area → Lends (Listed mostMarks) t area reply later
+  pub list : {area later : List ℕ} {reply : Reply} → mostLines (r .marks) ≤ length area → Lends (Listed mostMarks) t area reply later
       → (reply .place ≡ 0) × Given r area (record { number = reply .answer; value = reply .value }) later
   pub total : {reply : Reply} → Tells (Totalled mostMarks) t reply → reply ≡ replied 0 (totalOf r)
   pub class-size : {reply : Reply} → Tells (ClassSize mostMarks) t reply → reply ≡ replied 0 (sizeOf (r .marks) (inClass r))

@@ -13,6 +13,7 @@ use Rattle.ground.proofs.Cases.{if}
 use Rattle.ground.specs.Areas.{Wrote}
 use Rattle.ground.proofs.Areas.{wrote-length}
 use Rattle.boxes.proofs.Sums.{sum-le}
+use Rattle.lists.specs.Lists.{mostLines}
 use Rattle.tables.specs.Tables.{entry}
 use Rattle.sheet.specs.Limits.{mostMarks, entries}
 use Rattle.sheet.specs.Record.{Record, inClass, held-seconds, sheetOf}
@@ -23,7 +24,7 @@ use Rattle.sheet.specs.declared.Value.{Value}
 use Rattle.sheet.proofs.Opening.{combinations-fit}
 use Rattle.sheet.proofs.Limits.{boxes-fit, marks-most}
 use Rattle.listing.specs.Listing.{taken, totalOf, Listed, Totalled}
-use Rattle.listing.proofs.Laid.{laid-few, laid-inside, laid-is}
+use Rattle.listing.proofs.Laid.{lines-fit, laid-few, laid-inside, laid-is}
 use Rattle.histories.specs.Histories.{Good, Given}
 use Rattle.histories.proofs.Afresh.{kept-afresh, size-afresh, total-afresh, list-afresh}
 use Rattle.histories.proofs.Goods.{good-small}
@@ -46,8 +47,8 @@ module _ {r : Record} (good : Good r) where
 
   -- the list in an area of its own: its length, and the numbers that stand in front
   module _ {area later : List ℕ} {v : Value} (g : Given r area v later) where
-    count-small : v .value ≤ 32
-    count-small = omega (arith, laid-few (g .1) (good-small good), combinations-fit (r .marks) marks-small)
+    count-small : v .value ≤ mostLines mostMarks
+    count-small = omega (arith, laid-few (g .1) (good-small good), lines-fit (r .marks) marks-small)
 
     front-long : length (take (v .value) later) ≡ v .value
     front-long = length-take-le (v .value) later (laid-inside (g .1))
@@ -61,9 +62,9 @@ module _ {r : Record} {sheet : Sheet} (of : OfRecord sheet r) where
   pub sheet-marks : sheet .marks ≤ mostMarks
   sheet-marks = omega (arith, marks-small (of .good), ap (λ (s : Sheet). s .marks) (of .is))
 
-  pub given : {area later : List ℕ} {v : Value} → 32 ≡ length area → Listed mostMarks sheet area v later → Given r area v later
+  pub given : {area later : List ℕ} {v : Value} → mostLines mostMarks ≡ length area → Listed mostMarks sheet area v later → Given r area v later
   given {area} {later} {v} long l =
-      list-afresh r (of .good) area v later (omega (arith, combinations-fit (r .marks) (marks-small (of .good))))
+      list-afresh r (of .good) area v later (omega (arith, lines-fit (r .marks) (marks-small (of .good))))
       (subst (λ (s : Sheet). Listed mostMarks s area v later) (of .is) l)
 
   size-told : {v : Value} → ClassSize mostMarks sheet v → v ≡ record { number = 0; value = sizeOf (r .marks) (inClass r) }
@@ -73,7 +74,7 @@ module _ {r : Record} {sheet : Sheet} (of : OfRecord sheet r) where
   total-told {v} w = total-afresh r (of .good) v (subst (λ (s : Sheet). Totalled mostMarks s v) (of .is) w)
 
   -- NEITHER 5 NOR 7 COMES when the result is printed
-  pub never-refused : {area later : List ℕ} {size v total : Value} → 32 ≡ length area → ClassSize mostMarks sheet size → Listed mostMarks sheet area v later
+  pub never-refused : {area later : List ℕ} {size v total : Value} → mostLines mostMarks ≡ length area → ClassSize mostMarks sheet size → Listed mostMarks sheet area v later
       → Totalled mostMarks sheet total → (size .number ≡ 0) × (v .number ≡ 0) × (total .number ≡ 0)
   never-refused long sized listed totalled = (
     ap (λ (x : Value). x .number) (size-told sized),

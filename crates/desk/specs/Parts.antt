@@ -1,10 +1,11 @@
 -- What the functions of the desk tell each other.
-use Prim.Native.Nat.{ℕ, _+_, _≤_, _<_}
+use Prim.Native.Nat.{ℕ, _+_, _*_, _≤_, _<_}
 use mathlib.Core.Path.{_≡_}
 use mathlib.Core.List.{List}
 use lib.ListN.{length, getD}
 use Rattle.ground.specs.Areas.{Wrote}
-use Rattle.sheet.specs.Limits.{entries}
+use Rattle.lists.specs.Lists.{mostLines}
+use Rattle.sheet.specs.Limits.{mostMarks, entries}
 use Rattle.sheet.specs.Record.{Record, sheetOf}
 use Rattle.sheet.specs.declared.Sheet.{Sheet}
 use Rattle.sheet.specs.declared.Answer.{Answer}
@@ -41,7 +42,7 @@ abbrev pub lineRoom : ℕ
 lineRoom = 32
 
 abbrev pub resultRoom : ℕ
-resultRoom = 1200
+resultRoom = headsRoom + lineRoom * (mostLines mostMarks + 1)
 
 -- each number of the list is the place of an entry
 abbrev pub HaveEntries : List ℕ → List ℕ → Type 0

@@ -11,6 +11,7 @@ use Rattle.boxes.specs.Sums.{only}
 use Rattle.boxes.proofs.Boxes.{sumIn-nothing}
 use Rattle.ground.proofs.Cases.{if, clash, below-or}
 use Rattle.boxes.proofs.Sums.{sum-ext}
+use Rattle.lists.specs.Lists.{mostLines}
 use Rattle.tables.specs.Tables.{entry}
 use Rattle.tables.proofs.Entries.{afresh-entry, afresh-own}
 use Rattle.classes.specs.Standings.{isIn, isOut}
@@ -81,7 +82,7 @@ module _ (r : Record) (good : Good r) where
   total-afresh v (Totalled.spoiled no-ready) = absurd (no-ready ready-afresh)
   total-afresh v (Totalled.told w) = ap (λ (n : ℕ). record { number = 0; value = n }) total-same
 
-  pub list-afresh : (area : List ℕ) (v : Value) (later : List ℕ) → 2 ^ r .marks ≤ length area → Listed mostMarks (sheetOf entries r) area v later → Given r area v later
+  pub list-afresh : (area : List ℕ) (v : Value) (later : List ℕ) → mostLines (r .marks) ≤ length area → Listed mostMarks (sheetOf entries r) area v later → Given r area v later
   list-afresh area v later l w =
       let x = list-laid w class-ready l in
       (x .0, subst (λ (p : ℕ → Standing). Laid (r .marks) (λ c. isIn (p c)) (λ c. not (isOut (p c))) area (v .value) later) standing-afresh (x .1))

@@ -117,7 +117,7 @@ fn known_sheet(m: usize, class: &[u8]) {
         word(b" refused\n");
         return;
     }
-    if n <= 32 {
+    if n <= 16 {
         let k = n as usize;
         print_list(sheet, &area[..k]);
     }
@@ -133,7 +133,7 @@ fn document() {
     let mut area = listing::area();
     let listed = listing::list(sheet, &mut area);
     let n = listed.value;
-    if n <= 32 {
+    if n <= 16 {
         let k = n as usize;
         word(b"before");
         print_numbers(lists::before(&theirs, &area[..k]));

@@ -1,8 +1,9 @@
 -- Entries at 3^m and above are not read: two sheets that agree below get the same list and the same total.
-use Prim.Native.Nat.{ℕ, _^_, _<_, _≤_}
-use mathlib.Core.Path.{sym, subst}
+use Prim.Native.Nat.{ℕ}
+use mathlib.Core.Path.{sym, ap, subst}
 use mathlib.Core.List.{List}
-use lib.ListN.{length}
+use native.Mathlib.Omega.{arith}
+use Rattle.lists.specs.Lists.{mostLines}
 use Rattle.sheet.specs.Record.{Record, inClass, notOut}
 use Rattle.sheet.specs.Entries.{Agree}
 use Rattle.sheet.specs.declared.Sheet.{Sheet}
@@ -12,9 +13,9 @@ use Rattle.listing.specs.Listing.{totalOf, Laid, Listed, Totalled}
 
 pub list-alike : {most : ℕ} {s u : Sheet} {area later : List ℕ} {v : Value} → Agree s u → Listed most s area v later → Listed most u area v later
 list-alike a (Listed.spoiled n) = Listed.spoiled (λ r. n (class-ready-same (agree-back a) r))
-list-alike {area = area} a (Listed.short r l) = Listed.short (class-ready-same a r) (subst (λ (m : ℕ). length area < 2 ^ m) (a .marks) l)
+list-alike a (Listed.short r l) = Listed.short (class-ready-same a r) (omega (arith, ap mostLines (a .marks)))
 list-alike {area = area} {later} a (Listed.given {n} r l w) =
-    Listed.given (class-ready-same a r) (subst (λ (m : ℕ). 2 ^ m ≤ length area) (a .marks) l)
+    Listed.given (class-ready-same a r) (omega (arith, ap mostLines (a .marks)))
     (subst (λ (x : Record). Laid (x .marks) (inClass x) (notOut x) area n later) (record-same a) w)
 
 pub total-alike : {most : ℕ} {s u : Sheet} {v : Value} → Agree s u → Totalled most s v → Totalled most u v

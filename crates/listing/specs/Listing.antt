@@ -5,7 +5,7 @@ use mathlib.Core.Bool.{Bool}
 use mathlib.Core.List.{List, _++_}
 use lib.ListN.{length, drop}
 use Rattle.boxes.specs.Sums.{sum, only}
-use Rattle.lists.specs.Lists.{FirstShortest}
+use Rattle.lists.specs.Lists.{FirstShortest, mostLines}
 use Rattle.sheet.specs.Record.{Record, inClass, notOut}
 use Rattle.sheet.specs.Sound.{ClassReady, Ready, recordOf}
 use Rattle.sheet.specs.declared.Sheet.{Sheet}
@@ -27,12 +27,12 @@ pub record Laid (m : ℕ) (need room : ℕ → Bool) (area : List ℕ) (n : ℕ)
   pub size : n ≡ length list
   pub stands : later ≡ list ++ drop (length list) area
 
--- what `list` answers and leaves in the lent area: 7, 5, or else how many boxes the list has that is laid there: it covers the class that the counts tell,
--- inside what is not out
+-- what `list` answers and leaves in the lent area: 7; 5 where the area is not long enough for every shortest list; or else how many boxes the list has that is
+-- laid there: it covers the class that the counts tell, inside what is not out
 pub data Listed (most : ℕ) (s : Sheet) (area : List ℕ) : Value → List ℕ → Type 0 where
   spoiled : (ClassReady most s → ⊥) → Listed most s area (record { number = 7; value = 0 }) area
-  short : ClassReady most s → length area < 2 ^ s .marks → Listed most s area (record { number = 5; value = 0 }) area
-  given : {n : ℕ} {later : List ℕ} → ClassReady most s → 2 ^ s .marks ≤ length area
+  short : ClassReady most s → length area < mostLines (s .marks) → Listed most s area (record { number = 5; value = 0 }) area
+  given : {n : ℕ} {later : List ℕ} → ClassReady most s → mostLines (s .marks) ≤ length area
       → Laid (s .marks) (inClass (recordOf s)) (notOut (recordOf s)) area n later → Listed most s area (record { number = 0; value = n }) later
 
 -- what `total` answers: 7, or else the seconds held in the class

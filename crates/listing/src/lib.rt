@@ -10,10 +10,11 @@ ghost use mathlib.Core.Bool.{_&&_};
 ghost use lib.Dec.{eqb, ltb};
 ghost use Rattle.tables.specs.Tables.{own};
 ghost use Rattle.sets.specs.Sets.{has};
-ghost use Rattle.lists.specs.Lists.{Within};
+ghost use Rattle.lists.specs.Lists.{Within, mostLines};
 ghost use Rattle.listing.specs.Listing.{taken, totalOf, Laid, Listed, Totalled};
 ghost use Rattle.listing.specs.Parts.{BitsOf};
 use boxes;
+use lists;
 use seek;
 use sheet::Sheet;
 use sheet::Value;
@@ -52,21 +53,21 @@ pub fn class_bits(m: usize, outside: &[u32], either: &[u32]) -> Bits
     }
 }
 
-// An area for a list: for as many boxes as a class can have combinations.
-pub fn area() -> [u8; 32]
-    ensures { λ r. ⌜ 32 ≡ length r ⌝ }
+// An area for a list: for as many boxes as a shortest one can have.
+pub fn area() -> [u8; 16]
+    ensures { λ r. ⌜ mostLines mostMarks ≡ length r ⌝ }
 {
-    [0u8; 32]
+    [0u8; 16]
 }
 
 // Lays the first shortest list of m marks that covers `need` inside `room`: how many boxes it has. The search has an area of its own; the lent one gets the
 // finished list.
 fn lay(m: usize, need: u32, room: u32, area: &mut [u8]) -> usize
-    requires { ⌜ (m ≤ mostMarks) × (need < 2 ^ (2 ^ m)) × Within (has need) (has room) × (2 ^ m ≤ length (now area)) ⌝ }
+    requires { ⌜ (m ≤ mostMarks) × (need < 2 ^ (2 ^ m)) × Within (has need) (has room) × (mostLines m ≤ length (now area)) ⌝ }
     ensures { λ r. ⌜ Laid m (has need) (has room) (now (area .entry)) r (now (area .exit)) ⌝ }
 {
     let mut own = crate::area();
-    let n = boxes::power2(m);
+    let n = lists::most_lines(m);
     let k = seek::shortest(m, need, room, &mut own[..n]);
     ground::put(area, 0, &own[..k])
 }
@@ -79,7 +80,7 @@ pub fn list_sound(sheet: Sheet, area: &mut [u8]) -> Value
     let m = sheet.marks;
     let outside = sheet.outside;
     let either = sheet.either;
-    if area.len() < boxes::power2(m) {
+    if area.len() < lists::most_lines(m) {
         return Value {
             number: 5,
             value: 0,

@@ -27,6 +27,10 @@ module _ (m : ℕ) where
   unfolding covered
   covered-in b l c e = rw e
 
+  pub covered-more : (b : ℕ) (l : List ℕ) (c : ℕ) → covered m l c ≡ true → covered m (b ∷ l) c ≡ true
+  unfolding covered
+  covered-more b l c e = if (contains m b c) (λ t. rw t) (λ t. rw (t, e))
+
   pub covered-out : (b : ℕ) (l : List ℕ) (c : ℕ) → contains m b c ≡ false → covered m (b ∷ l) c ≡ covered m l c
   unfolding covered
   covered-out b l c e = rw e

@@ -1,9 +1,9 @@
--- A fitting list exists wherever what is needed has room, and over m + 1 marks one of at most 2 ^ m boxes: for each pair of combinations that
--- differ in mark 0, the pair's own box where both are needed, and otherwise the box of the one that is.
+-- A fitting list exists wherever what is needed has room, and one of at most half as many boxes as there are combinations: for each pair of combinations
+-- that differ in mark 0, the pair's own box where both are needed, and otherwise the box of the one that is.
 use mathlib.Core.Path.{_≡_, refl, sym, ap, _∙_, subst, fun-ext}
 use mathlib.Core.Bool.{Bool, true, false, not, _&&_, and-true, and-false}
 use mathlib.Core.List.{List, [], _∷_}
-use Prim.Native.Nat.{ℕ, zero, suc, _+_, _*_, _/_, _%_, _^_, _<_, _≤_, zero-le, max}
+use Prim.Native.Nat.{ℕ, zero, suc, _+_, _-_, _*_, _/_, _%_, _^_, _<_, _≤_, zero-le, max}
 use native.Mathlib.Nat.{pow-suc, le-refl}
 use native.Mathlib.Omega.{arith}
 use lib.Dec.{eqb, ltb, lit<}
@@ -12,7 +12,7 @@ use borrow.Author.Tests.{eq-eqb, ne-eqb, eqb-true, lt-ltb, le-ltb}
 use Rattle.boxes.specs.Boxes.{agrees, contains, through, single}
 use Rattle.ground.proofs.Cases.{if, clash, below-or, same-or, and-left, and-right}
 use Rattle.boxes.proofs.Choices.{through-lt, single-contains}
-use Rattle.lists.specs.Lists.{Fits, FirstShortest, Small, Within}
+use Rattle.lists.specs.Lists.{Fits, FirstShortest, Small, Within, mostLines}
 use Rattle.lists.proofs.Fit.{less, fits-cons, fits-none, fits-room, fits-within}
 
 -- the box of c with mark 0 free contains the combinations that agree with c in the other marks
@@ -101,7 +101,7 @@ module _ (m : ℕ) (need : ℕ → Bool) where
   pairs (suc k) h = step k (omega arith) (pairs k (omega arith))
 
   -- OVER m + 1 MARKS a list of at most 2 ^ m boxes fits
-  pub half-exists : Small (suc m) need → (l : List ℕ) × Fits (suc m) need need l × (length l ≤ 2 ^ m)
+  half-exists : Small (suc m) need → (l : List ℕ) × Fits (suc m) need need l × (length l ≤ 2 ^ m)
   unfolding upto
   half-exists s =
       let y = pairs (2 ^ m) (le-refl (2 ^ m)) in
@@ -112,7 +112,7 @@ module _ (m : ℕ) (need : ℕ → Bool) where
       (y .0, subst (λ (q : ℕ → Bool). Fits (suc m) q q (y .0)) e (y .1), y .2)
 
 -- A LIST EXISTS exactly where what is needed has room: the other half is `fits-within`
-pub exists : (m : ℕ) (need room : ℕ → Bool) → Small m need → Within need room → (l : List ℕ) × Fits m need room l × (length l ≤ 2 ^ m)
+pub exists : (m : ℕ) (need room : ℕ → Bool) → Small m need → Within need room → (l : List ℕ) × Fits m need room l × (length l ≤ mostLines m)
 unfolding contains
 exists zero need room s h = if (need 0)
     (λ e. (
@@ -126,13 +126,9 @@ exists zero need room s h = if (need 0)
     (λ e. ([], fits-none zero need room (λ c t. let z : c ≡ 0 = omega (arith, s c t) in clash t (ap need z ∙ e)), zero-le))
 exists (suc m) need room s h =
     let y = half-exists m need s in
-    (y .0, fits-room (suc m) room h (y .1), omega (arith, y .2, pow-suc 2 m))
+    let e : suc m - 1 ≡ m = omega arith in
+    (y .0, fits-room (suc m) room h (y .1), rw e (y .2))
 
--- A FIRST SHORTEST LIST HAS AT MOST 2 ^ m BOXES, and half as many where there is a mark
-pub at-most : (m : ℕ) {need room : ℕ → Bool} {l : List ℕ} → Small m need → FirstShortest m need room l → length l ≤ 2 ^ m
+-- A SHORTEST LIST HAS AT MOST HALF AS MANY BOXES AS THERE ARE COMBINATIONS, whatever has room, and one where there is but one combination
+pub at-most : (m : ℕ) {need room : ℕ → Bool} {l : List ℕ} → Small m need → FirstShortest m need room l → length l ≤ mostLines m
 at-most m {need} {room} s f = let y = exists m need room s (fits-within m (f .fits)) in omega (arith, f .shortest (y .0) (y .1), y .2)
-
-pub at-most-half : (m : ℕ) {need room : ℕ → Bool} {l : List ℕ} → Small (suc m) need → FirstShortest (suc m) need room l → length l ≤ 2 ^ m
-at-most-half m {need} {room} s f =
-    let y = half-exists m need s in
-    omega (arith, f .shortest (y .0) (fits-room (suc m) room (fits-within (suc m) (f .fits)) (y .1)), y .2)

@@ -7,7 +7,7 @@ use Prim.Native.Nat.{ℕ, _+_, _^_, _<_}
 use lib.Dec.{eqb, ltb}
 use borrow.Author.Tests.{eqb-true, ltb-true}
 use Rattle.ground.proofs.Cases.{if, and-left, and-right}
-use Rattle.lists.specs.Lists.{among, FirstShortest, Small}
+use Rattle.lists.specs.Lists.{among, FirstShortest, Small, mostLines}
 use Rattle.lists.proofs.Model.{fewest, found}
 
 -- each is below n
@@ -27,7 +27,7 @@ gives (some k) l = alike k l
 
 -- whether the list is the one that the search finds
 unfoldable pub firstIs : ℕ → List ℕ → List ℕ → Bool
-firstIs m class list = below (2 ^ m) class && gives (fewest m (among class) (among class) (2 ^ m + 1) 0) list
+firstIs m class list = below (2 ^ m) class && gives (fewest m (among class) (among class) (mostLines m + 1) 0) list
 
 below-small : (m : ℕ) (l : List ℕ) → below (2 ^ m) l ≡ true → Small m (among l)
 unfolding below among
@@ -56,5 +56,5 @@ unfolding firstIs
 known-list m class list e =
     let p = among class in
     let r = found m p p (below-small m class (and-left _ _ e)) (λ c t. t) in
-    let q = gives-same (fewest m p p (2 ^ m + 1) 0) list (r .0) (and-right (below (2 ^ m) class) _ e) (r .1) in
+    let q = gives-same (fewest m p p (mostLines m + 1) 0) list (r .0) (and-right (below (2 ^ m) class) _ e) (r .1) in
     subst (FirstShortest m p p) q (r .2)

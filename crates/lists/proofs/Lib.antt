@@ -5,6 +5,7 @@ pub mod Order
 pub mod First
 pub mod Lay
 pub mod Exist
+pub mod Evens
 pub mod Model
 pub mod Known
 pub mod Pottosin

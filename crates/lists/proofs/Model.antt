@@ -14,7 +14,7 @@ use Rattle.boxes.specs.Boxes.{contains, through}
 use Rattle.ground.proofs.Cases.{if, clash, below-or, and-left, and-right}
 use Rattle.boxes.proofs.Boxes.{contains-combination}
 use Rattle.boxes.proofs.Choices.{through-lt}
-use Rattle.lists.specs.Lists.{Fits, lowestOf, FirstShortest, AtLeast, Small, Within}
+use Rattle.lists.specs.Lists.{Fits, lowestOf, FirstShortest, AtLeast, Small, Within, mostLines}
 use Rattle.lists.proofs.Fit.{less, Inside, lowest-true, lowest-le}
 use Rattle.lists.proofs.Lay.{none-needed, first-empty, some-box, Tried, tried-none, tried-next, longer-out, longer-deep, least-rest, laid-shortest, tried-all}
 use Rattle.lists.proofs.Exist.{exists}
@@ -127,7 +127,7 @@ module _ (m : ℕ) where
 
 -- A FIRST SHORTEST LIST EXISTS wherever what is needed has room, and the search by sizes finds it
 pub found : (m : ℕ) (need room : ℕ → Bool) → Small m need → Within need room
-    → (l : List ℕ) × (fewest m need room (2 ^ m + 1) 0 ≡ some l) × FirstShortest m need room l
+    → (l : List ℕ) × (fewest m need room (mostLines m + 1) 0 ≡ some l) × FirstShortest m need room l
 found m need room s h =
     let x = exists m need room s h in
-    fewest-right m need room s (2 ^ m + 1) 0 (λ l f. zero-le) (x .0) (x .1) (omega (arith, x .2))
+    fewest-right m need room s (mostLines m + 1) 0 (λ l f. zero-le) (x .0) (x .1) (omega (arith, x .2))

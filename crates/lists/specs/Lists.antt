@@ -4,7 +4,7 @@ use mathlib.Core.Path.{_≡_}
 use mathlib.Core.Logic.{_⊎_}
 use mathlib.Core.Bool.{Bool, true, false, _&&_, _||_}
 use mathlib.Core.List.{List, [], _∷_}
-use Prim.Native.Nat.{ℕ, zero, suc, _^_, _≤_, _<_}
+use Prim.Native.Nat.{ℕ, zero, suc, _-_, _^_, _≤_, _<_}
 use lib.Dec.{eqb}
 use lib.ListN.{length}
 use Rattle.boxes.specs.Boxes.{contains, lowest}
@@ -34,6 +34,10 @@ pub record Fits (m : ℕ) (need room : ℕ → Bool) (l : List ℕ) : Type 0 whe
 -- no fitting list has fewer than n boxes
 abbrev pub AtLeast : ℕ → (ℕ → Bool) → (ℕ → Bool) → ℕ → Type 0
 AtLeast m need room n = (l : List ℕ) → Fits m need room l → n ≤ length l
+
+-- the most boxes that a shortest list can have, whatever is needed and whatever has room (`at-most` in proofs/Exist)
+abbrev pub mostLines : ℕ → ℕ
+mostLines m = 2 ^ (m - 1)
 
 -- the combinations of a set are below 2^m
 abbrev pub Small : ℕ → (ℕ → Bool) → Type 0

@@ -1,7 +1,18 @@
-// Lists of boxes: the comparison of two lent lists. Any bytes are taken as box numbers.
+// Lists of boxes: how many boxes a shortest one can have, and the comparison of two lent lists, where any bytes are taken as box numbers.
+ghost use mathlib.Core.Path.{_≡_};
+ghost use Prim.Native.Nat.{_≤_};
 ghost use Rattle.ground.specs.Decides.{Decides};
-ghost use Rattle.lists.specs.Lists.{Before};
+ghost use Rattle.lists.specs.Lists.{Before, mostLines};
 ghost use Rattle.lists.specs.Compared.{HandsBack};
+
+// The most boxes that a shortest list over m marks can have: one for each pair of combinations that differ in mark 0 alone.
+pub fn most_lines(m: usize) -> usize
+    requires { ⌜ m ≤ 8 ⌝ }
+    ensures { λ r. ⌜ r ≡ mostLines m ⌝ }
+{
+    let top = boxes::power2(m) - 1;
+    top / 2 + 1
+}
 
 // Whether list a is before list b.
 pub fn is_before(a: &[u8], b: &[u8]) -> bool

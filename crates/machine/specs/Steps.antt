@@ -8,7 +8,7 @@ use Rattle.machine.specs.Machine.{Machine}
 
 -- room for what a line, or the end of the input, may print
 abbrev pub pageRoom : ℕ
-pageRoom = 1280
+pageRoom = 640
 
 -- line k was taken in a state; `held` says what the code holds of a state
 pub record SteppedBy (M : Machine) {S : Type 0} (held : M .State → S) (k : ℕ) (s : M .State) (row : Row) (out : List ℕ) (c : S) (wrote : ℕ) (later : List ℕ) : Type 0 where

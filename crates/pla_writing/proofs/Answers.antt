@@ -7,29 +7,28 @@ use lib.ListN.{length, take, drop}
 use lib.Seq.{length-take-le}
 use Rattle.ground.specs.Areas.{Wrote}
 use Rattle.ground.proofs.Areas.{laid-front}
-use Rattle.lists.specs.Lists.{FirstShortest}
+use Rattle.lists.specs.Lists.{FirstShortest, mostLines}
 use Rattle.sheet.specs.Record.{inClass, notOut}
 use Rattle.sheet.specs.Limits.{mostMarks}
 use Rattle.sheet.specs.Sound.{ClassReady, recordOf}
 use Rattle.sheet.specs.declared.Sheet.{Sheet}
 use Rattle.sheet.specs.declared.Value.{Value}
-use Rattle.sheet.proofs.Opening.{combinations-fit}
 use Rattle.sheet.proofs.Limits.{marks-most}
 use Rattle.listing.specs.Listing.{Laid, Listed}
-use Rattle.listing.proofs.Laid.{class-small, list-laid, laid-few, laid-inside, laid-is}
+use Rattle.listing.proofs.Laid.{class-small, list-laid, lines-fit, laid-few, laid-inside, laid-is}
 use Rattle.pla.specs.Writing.{plaText}
 use Rattle.pla.specs.Answers.{WritesPla, short, written}
 use Rattle.pla_writing.specs.Parts.{TextSize}
 
-module _ {s : Sheet} {area later : List ℕ} {v : Value} (ready : ClassReady mostMarks s) (long : 32 ≡ length area) (listed : Listed mostMarks s area v later) where
+module _ {s : Sheet} {area later : List ℕ} {v : Value} (ready : ClassReady mostMarks s) (long : mostLines mostMarks ≡ length area) (listed : Listed mostMarks s area v later) where
   pub few-marks : s .marks ≤ mostMarks
   few-marks = marks-most mostMarks (s .marks) (ready .marks)
 
   list : Laid (s .marks) (inClass (recordOf s)) (notOut (recordOf s)) area (v .value) later
-  list = list-laid listed ready (omega (arith, combinations-fit (s .marks) few-marks)) .1
+  list = list-laid listed ready (omega (arith, lines-fit (s .marks) few-marks)) .1
 
-  pub few-boxes : v .value ≤ 32
-  few-boxes = omega (arith, laid-few list (class-small s), combinations-fit (s .marks) few-marks)
+  pub few-boxes : v .value ≤ mostLines mostMarks
+  few-boxes = omega (arith, laid-few list (class-small s), lines-fit (s .marks) few-marks)
 
   pub boxes-inside : v .value ≤ length later
   boxes-inside = laid-inside list

@@ -2,6 +2,7 @@
 ghost use Prim.Native.Nat.{_+_, _≤_};
 ghost use lib.ListN.{length};
 ghost use Rattle.ground.specs.Areas.{Wrote};
+ghost use Rattle.lists.specs.Lists.{mostLines};
 ghost use Rattle.sheet.specs.Limits.{mostMarks};
 ghost use Rattle.sheet.specs.Sound.{ClassReady};
 ghost use Rattle.pla.specs.Writing.{cubeLines, plaText};
@@ -41,7 +42,7 @@ fn put_text(out: &mut [u8], m: usize, list: &[u8]) -> usize
 
 // How long the text is of a list of k boxes over m marks.
 fn text_size(m: usize, k: usize) -> usize
-    requires { ⌜ (m ≤ mostMarks) × (k ≤ 32) ⌝ }
+    requires { ⌜ (m ≤ mostMarks) × (k ≤ mostLines mostMarks) ⌝ }
     ensures { λ r. ⌜ TextSize m k r ⌝ }
 {
     let digits = if k < 10 { 1 } else { 2 };

@@ -138,7 +138,7 @@ fn run(job: u8, n: u64) -> u64 {
     if 256 < size {
         return 0;
     }
-    if 32 < lines {
+    if 16 < lines {
         return 0;
     }
     let s = size as usize;

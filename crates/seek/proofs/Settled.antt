@@ -1,18 +1,19 @@
--- What the search answers is settled: no two answers, a number with the bytes at the front, meet its promise. And it ends: by 2 ^ m boxes a list is found.
+-- What the search answers is settled: no two answers, a number with the bytes at the front, meet its promise. And it ends: no list that it seeks has more
+-- boxes than `mostLines`.
 use mathlib.Core.Path.{_≡_, sym, ap, _∙_}
 use mathlib.Core.Bool.{Bool}
 use mathlib.Core.List.{List}
-use Prim.Native.Nat.{ℕ, _^_, _≤_}
+use Prim.Native.Nat.{ℕ, _≤_}
 use native.Mathlib.Omega.{arith}
 use lib.ListN.{length, take}
 use lib.Seq.{length-take-le}
-use Rattle.lists.specs.Lists.{AtLeast, Small, Within}
+use Rattle.lists.specs.Lists.{AtLeast, Small, Within, mostLines}
 use Rattle.lists.proofs.First.{unique}
 use Rattle.lists.proofs.Exist.{exists}
 use Rattle.seek.specs.Answer.{Sought}
 
--- where what is needed has room, it is not so that every list has more than 2 ^ m boxes
-pub least-small : (m : ℕ) (need room : ℕ → Bool) (k : ℕ) → Small m need → Within need room → AtLeast m need room k → k ≤ 2 ^ m
+-- where what is needed has room, it is not so that every list has more boxes
+pub least-small : (m : ℕ) (need room : ℕ → Bool) (k : ℕ) → Small m need → Within need room → AtLeast m need room k → k ≤ mostLines m
 least-small m need room k s h least = let x = exists m need room s h in omega (arith, least (x .0) (x .1), x .2)
 
 -- NO TWO ANSWERS

@@ -10,6 +10,7 @@ use lib.ListN.{length}
 use lib.Pow.{pow-pos}
 use Rattle.sets.specs.Sets.{setMarks, has}
 use Rattle.sets.proofs.Bits.{within-yes}
+use Rattle.lists.specs.Lists.{mostLines}
 use Rattle.seek.specs.Answer.{Askable, Sought}
 use Rattle.seek_c.specs.Told.{Told}
 
@@ -21,9 +22,9 @@ pub shifted-in : (a n : ℕ) → (a / 2 ^ n ≡ 0 → ⊥) → a < 2 ^ n → ⊥
 shifted-in a n h l = h (div-eq-of-lt l)
 
 -- the four tests
-pub askable : (m need room : ℕ) (area : List ℕ) {n : ℕ} → m ≤ setMarks → n ≡ 2 ^ m → n ≤ length area → need / 2 ^ n ≡ 0 → bitAnd need room ≡ need
+pub askable : (m need room : ℕ) (area : List ℕ) {n : ℕ} → m ≤ setMarks → mostLines m ≤ length area → n ≡ 2 ^ m → need / 2 ^ n ≡ 0 → bitAnd need room ≡ need
     → Askable m need room area
-askable m need room area h e l z w = record { marks = h; small = rw e at (shifted-out need _ z); within = within-yes need room w; long = omega arith }
+askable m need room area h l e z w = record { marks = h; small = rw e at (shifted-out need _ z); within = within-yes need room w; long = l }
 
 -- where one of them fails, and where none does
 

@@ -22,7 +22,7 @@ pub struct Fed {
 
 impl Session {
     // Room for what one call may write.
-    pub const ROOM: usize = 2560;
+    pub const ROOM: usize = 1280;
 
     // The constant is the number of the definitions.
     pub fn limits()

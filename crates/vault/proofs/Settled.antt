@@ -24,16 +24,16 @@ use Rattle.vault.specs.Entries.{valued, HoldsBy, HoldsNoneBy, Put, Chang
 -- what is read, by a way of reading that gives one answer at most
 
 module _ {R : Read → Type 0} (alone : (a b : Read) → R a → R b → a ≡ b) where
-  one-sheet : {s u : Sheet} → HoldsBy R s → HoldsBy R u → s ≡ u
+  pub one-sheet : {s u : Sheet} → HoldsBy R s → HoldsBy R u → s ≡ u
   one-sheet p q = sym (p .sheet) ∙ ap (λ (a : Read). a .sheet) (alone _ _ (p .reads) (q .reads)) ∙ q .sheet
 
   one-refusal : {A : Type 0} {refusal : Read → A} {r z : A} → HoldsNoneBy R refusal r → HoldsNoneBy R refusal z → r ≡ z
   one-refusal {refusal = refusal} p q = p .reply ∙ ap refusal (alone _ _ (p .reads) (q .reads)) ∙ sym (q .reply)
 
-  not-both : {A : Type 0} {refusal : Read → A} {r : A} {s : Sheet} → HoldsNoneBy R refusal r → HoldsBy R s → ⊥
+  pub not-both : {A : Type 0} {refusal : Read → A} {r : A} {s : Sheet} → HoldsNoneBy R refusal r → HoldsBy R s → ⊥
   not-both p q = p .bad (ap (λ (a : Read). a .number) (alone _ _ (p .reads) (q .reads)) ∙ q .good)
 
-stored-alone : (t : List ℕ) (a b : Read) → Reads mostMarks entries t a → Reads mostMarks entries t b → a ≡ b
+pub stored-alone : (t : List ℕ) (a b : Read) → Reads mostMarks entries t a → Reads mostMarks entries t b → a ≡ b
 stored-alone t a b = reads-settled
 
 -- what is written

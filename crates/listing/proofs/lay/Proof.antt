@@ -1,24 +1,24 @@
--- The search's own area is as long as a class has combinations; what it finds goes to the lent area.
+-- The search's own area is as long as a list can be; what it finds goes to the lent area.
 use Prim.Native.Nat.{ℕ, _≤_}
 use mathlib.Core.List.{List}
 use native.Mathlib.Omega.{arith}
-use native.Mathlib.Nat.{pow-le-pow-right}
 use lib.ListN.{length, drop, length-take}
 use borrow.Author.Needs.{needs}
 use Rattle.listing.proofs.Given.{front-fits, front-size, laid-given}
+use Rattle.listing.proofs.Laid.{lines-fit}
 use Rattle.listing.proofs.lay.Statement.{statement}
 use Rattle.listing.proofs.lay.Tie as tie
 
--- the own area has room for the combinations
-room : (c : tie.After-power2) → c .power2 .result ≤ length (c .before .area .result)
-room c = omega (arith, c .power2 .ensures .0, c .before .area .ensures, pow-le-pow-right {n = 2} (omega arith) {i = c .before .before .before .args .m} {j = 5} (omega arith))
+-- the own area has room for it
+room : (c : tie.After-most-lines) → c .most-lines .result ≤ length (c .before .area .result)
+room c = omega (arith, c .most-lines .ensures, c .before .area .ensures, lines-fit (c .before .before .before .args .m) (c .before .before .before .pre .0))
 
 -- what the search left in the lent part of it, and what is behind
 abbrev left : tie.After-shortest → List ℕ
 left c = c .shortest .last .1 .1 .1 .0
 
 abbrev behind : tie.After-shortest → List ℕ
-behind c = drop (c .before .before .power2 .result) (c .before .before .before .area .result)
+behind c = drop (c .before .before .most-lines .result) (c .before .before .before .area .result)
 
 array-borrow-prefix-own : tie.Need-array-borrow-prefix-own
 array-borrow-prefix-own c = room c
@@ -29,7 +29,7 @@ slice-aggregate-shortest c = simp length-take (omega (arith, room (c .before)))
 shortest-requires : tie.Need-shortest-requires
 shortest-requires c κs =
     let p = c .before .before .before .before .pre in
-    record { marks = p .0; small = p .1; within = p .2; long = simp length-take (omega (arith, c .before .power2 .ensures .0, room (c .before))) }
+    record { marks = p .0; small = p .1; within = p .2; long = simp length-take (omega (arith, c .before .most-lines .ensures, room (c .before))) }
 
 array-share-prefix-own : tie.Need-array-share-prefix-own
 array-share-prefix-own c = let s = c .before .before in front-fits _ (left s) (behind s) (s .shortest .ensures .0)
@@ -42,7 +42,7 @@ put-requires c κs =
     let s = c .before .before .before in
     let k = s .shortest .ensures .0 in
     let lent = simp length-take at (s .shortest .kept .1 .1 .1 .0) in
-    omega (arith, front-size _ (left s) (behind s) k, k, lent, s .before .before .power2 .ensures .0, s .before .before .before .before .before .pre .3)
+    omega (arith, front-size _ (left s) (behind s) k, k, lent, s .before .before .most-lines .ensures, s .before .before .before .before .before .pre .3)
 
 same-length : tie.Need-same-length
 same-length c = c .before .before .put .kept .0

@@ -15,11 +15,11 @@ use Rattle.listing.proofs.list_sound.Tie as tie
 long : (c : tie.Start) → (length (c .args .sheet .outside) ≡ entries) × (length (c .args .sheet .either) ≡ entries)
 long c = (search needs, search needs)
 
-power2-requires : tie.Need-power2-requires
-power2-requires c κs = omega (arith, marks-most mostMarks _ (c .before .before .before .pre .marks))
+most-lines-requires : tie.Need-most-lines-requires
+most-lines-requires c κs = omega (arith, marks-most mostMarks _ (c .before .before .before .pre .marks))
 
 returns : tie.Need-returns
-returns c = short (c .before .before .before .before .before .pre) (omega (arith, c .before .power2 .ensures .0))
+returns c = short (c .before .before .before .before .before .pre) (omega (arith, c .before .most-lines .ensures))
 
 slice-aggregate-class-bits : tie.Need-slice-aggregate-class-bits
 slice-aggregate-class-bits c = search needs
@@ -41,7 +41,7 @@ lay-requires c κs =
       marks-most mostMarks _ (s .pre .marks),
       told .small,
       within-told (told .need (sheet .profile) (sheet .held)) (told .room (sheet .profile) (sheet .held)) (in-not-out (recordOf sheet)),
-      omega (arith, p .power2 .ensures .0),
+      omega (arith, p .most-lines .ensures),
     )
 
 same-length : tie.Need-same-length
@@ -54,14 +54,14 @@ returns-2 c =
     let s = p .before .before .before .before in
     let told = b .class-bits .ensures in
     let sheet = s .args .sheet in
-    given (s .pre) (omega (arith, p .power2 .ensures .0))
+    given (s .pre) (omega (arith, p .most-lines .ensures))
     (laid-told (told .need (sheet .profile) (sheet .held)) (told .room (sheet .profile) (sheet .held)) (c .before .before .lay .ensures))
 
 pub list-sound-spec : {M : Type 1} → statement M
 list-sound-spec =
     tie.close
     (tie.spec
-    power2-requires
+    most-lines-requires
     returns
     slice-aggregate-class-bits
     slice-aggregate-class-bits-2

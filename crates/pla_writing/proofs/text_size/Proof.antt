@@ -17,8 +17,8 @@ digits c =
     ⊎-elim (λ w. (omega (arith, w .1, one-digit k (w .0 .taken)), omega (arith, w .1)))
     (λ w. (omega (arith, w .1, two-digits k (w .0 .left) (omega (arith, c .before .before .pre .1))), omega (arith, w .1))) (c .before .if1 .came)
 
-small : (c : tie.After-row-known) → c .before .before .args .k * (c .before .before .args .m + 3) ≤ 256
-small c = mul-le-mul {n₂ = 32} {m₂ = 8} (c .before .before .pre .1) (omega (arith, c .before .before .pre .0))
+small : (c : tie.After-row-known) → c .before .before .args .k * (c .before .before .args .m + 3) ≤ 128
+small c = mul-le-mul {n₂ = 16} {m₂ = 8} (c .before .before .pre .1) (omega (arith, c .before .before .pre .0))
 
 add-result : tie.Need-add-result
 add-result c = omega (arith, digits c)

@@ -1,4 +1,4 @@
--- The sizes below k have been tried: no list has fewer than k boxes. Since one exists, of at most 2 ^ m boxes, k comes no further.
+-- The sizes below k have been tried: no list has fewer than k boxes. Since one exists, of at most `mostLines` boxes, k comes no further.
 use mathlib.Core.Path.{_≡_, refl, _∙_}
 use Prim.Native.Nat.{_≤_, _-_, _+_, _^_, zero-le}
 use native.Mathlib.Omega.{arith}
@@ -6,7 +6,7 @@ use lib.ListN.{length}
 use lib.Pow.{pow-mono}
 use borrow.Author.Needs.{needs}
 use borrow.Author.Tests.{not-true, not-false}
-use Rattle.lists.specs.Lists.{AtLeast}
+use Rattle.lists.specs.Lists.{AtLeast, mostLines}
 use Rattle.sets.specs.Sets.{has, setMarks}
 use Rattle.sets.proofs.Bits.{has-small}
 use Rattle.seek.proofs.Turn.{reached-yes, reached-no}
@@ -18,16 +18,16 @@ abbrev Inv-loop : tie.InvT-loop
 Inv-loop m need room area₀ sets singles costs plus minus k₀ area k = (length area ≡ length area₀) × AtLeast m (has need) (has room) k
 
 abbrev μ-loop : tie.MeasureT-loop
-μ-loop m need room area₀ sets singles costs plus minus k₀ area k = 2 ^ m + 1 - k
+μ-loop m need room area₀ sets singles costs plus minus k₀ area k = mostLines m + 1 - k
 
 abbrev start : tie.At-loop Inv-loop μ-loop → tie.Start Inv-loop μ-loop
 start c = c .before .before .before .before .before .before .before .before
 
-few : (c : tie.At-loop Inv-loop μ-loop) → (c .loop .k ≤ 2 ^ start c .args .m) × (2 ^ start c .args .m ≤ 2 ^ setMarks)
+few : (c : tie.At-loop Inv-loop μ-loop) → (c .loop .k ≤ mostLines (start c .args .m)) × (mostLines (start c .args .m) ≤ 2 ^ setMarks)
 few c =
     let s = start c in
     let a = s .args in
-    (least-small (a .m) (has (a .need)) (has (a .room)) (c .loop .k) (has-small (a .m) (a .need) (s .pre .small)) (s .pre .within) (c .loop .inv .1), pow-mono (s .pre .marks))
+    (least-small (a .m) (has (a .need)) (has (a .room)) (c .loop .k) (has-small (a .m) (a .need) (s .pre .small)) (s .pre .within) (c .loop .inv .1), pow-mono {i = a .m - 1} {j = setMarks} (omega (arith, s .pre .marks)))
 
 weighed-requires : tie.Need-weighed-requires Inv-loop μ-loop
 weighed-requires c κs = let s = c .before .before .before .before .before in (s .pre .marks, c .before .before .before .sets .ensures (s .args .m) (s .pre .marks))
