@@ -19,8 +19,8 @@ use Rattle.checking.specs.declared.Finding.the-variants.{Fitting, Faulty}
 use Rattle.checking.specs.declared.Verdict.{Verdict}
 use Rattle.checking.proofs.Settled.{check-settled}
 use Rattle.checking.proofs.Some.{check-some}
-use Rattle.vault.specs.Entries.{Lends, TellsAs, Judges}
-use Rattle.vault.specs.declared.Reply.{Reply}
+use Rattle.lent.specs.Entries.{Lends, TellsAs, Judges}
+use Rattle.lent.specs.declared.Reply.{Reply}
 use Rattle.vault.proofs.Settled.{vault-check-settled}
 use Rattle.demands.specs.Checks.{FitsClass, FirstFaultIn, CheckedIn, Checks}
 use Rattle.demands.proofs.Demand2.{demand-2}

@@ -40,8 +40,8 @@ use Rattle.checking.specs.Answers.{verdictOf}
 use Rattle.checking.specs.declared.Finding.{Finding}
 use Rattle.checking.specs.declared.Finding.the-variants.{Spoiled, Fitting, Faulty}
 use Rattle.checking.specs.declared.Verdict.{Verdict}
-use Rattle.vault.specs.Entries.{noReply, HoldsNoneBy, Put, ChangesBy, TellsAs, Tells, Judges, Lends, Compared, KeptAt, same}
-use Rattle.vault.specs.declared.Reply.{Reply}
+use Rattle.lent.specs.Entries.{noReply, HoldsNoneBy, Put, ChangesBy, TellsAs, Tells, Judges, Lends, Compared, KeptAt, same}
+use Rattle.lent.specs.declared.Reply.{Reply}
 use Rattle.demands.specs.Calls.{Told, Lent, nothing, sheet, bytes, ofNumber, ofValue, ofRead, ofReading, ofVerdict, ofReply, Made}
 use Rattle.demands.specs.Demand1.{inTable, Refuses, Demand1}
 

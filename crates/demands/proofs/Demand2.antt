@@ -31,10 +31,10 @@ use Rattle.listing.proofs.Laid.{class-small, list-laid}
 use Rattle.listing.proofs.Lines.{kept-total}
 use Rattle.stored.specs.Fields.{Bytes}
 use Rattle.stored.specs.declared.Layout.the-variants.{Today}
-use Rattle.vault.specs.Entries.{Holds, Lends}
-use Rattle.vault.proofs.Replies.{holds-ready}
-use Rattle.vault.proofs.Settled.{one-sheet, not-both, stored-alone}
-use Rattle.vault.specs.declared.Reply.{Reply}
+use Rattle.lent.specs.Entries.{Holds, Lends}
+use Rattle.lent.proofs.Replies.{holds-ready}
+use Rattle.lent.proofs.Settled.{one-sheet, not-both, stored-alone}
+use Rattle.lent.specs.declared.Reply.{Reply}
 use Rattle.demands.specs.Demand2.{Lines, Printed, PrintedIn, Demand2}
 
 -- where no combination is either, what is not out is in

@@ -45,9 +45,9 @@ use Rattle.histories.proofs.Afresh.{list-afresh, total-afresh, size-afresh}
 use Rattle.histories.proofs.Goods.{good-opened, good-opened-under}
 use Rattle.histories.proofs.Histories.{sheet-afresh, answers-afresh, good-all}
 use Rattle.histories.proofs.Travels.{good-read, good-events, lives-afresh}
-use Rattle.vault.specs.Entries.{replied, TellsAs, Tells, Lends, KeptAt}
+use Rattle.lent.specs.Entries.{replied, TellsAs, Tells, Lends, KeptAt}
 use Rattle.vault.specs.Sequences.{Entry, Serves, entryNumber, afterEntry}
-use Rattle.vault.specs.declared.Reply.{Reply}
+use Rattle.lent.specs.declared.Reply.{Reply}
 use Rattle.vault.proofs.Sequences.{holds-record, holds-some, serves-afresh, good-entries, open-begins, open-under-begins, read-begins}
 use Rattle.demands.specs.Demand3.{Begins, BeginsIn, WorkedOut, WorkedOutIn, Demand3}
 

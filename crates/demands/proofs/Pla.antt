@@ -40,8 +40,8 @@ use Rattle.pla.proofs.Runs.{refusals, says-one-outcome}
 use Rattle.pla.proofs.Drawings.{in-alone, drawn-marks, drawn-times, drawn-class, drawn-plain, drawn-combination}
 use Rattle.pla.proofs.Settled.{reads-pla-some, reads-pla-settled}
 use Rattle.pla.proofs.Back.{pla-back}
-use Rattle.vault.specs.Entries.{Put, ChangesBy, Lends, same}
-use Rattle.vault.specs.declared.Reply.{Reply}
+use Rattle.lent.specs.Entries.{Put, ChangesBy, Lends, same}
+use Rattle.lent.specs.declared.Reply.{Reply}
 use Rattle.demands.specs.Calls.{bytes, ofReply, Made}
 use Rattle.demands.specs.Demand1.{Refuses}
 use Rattle.demands.specs.Demand2.{Lines}

@@ -39,8 +39,8 @@ use Rattle.histories.specs.Histories.{Good, numberOf, accepted}
 use Rattle.histories.proofs.Afresh.{out-above}
 use Rattle.histories.proofs.Histories.{good-all}
 use Rattle.histories.proofs.Travels.{good-storable, good-read, form-kept}
-use Rattle.vault.specs.Entries.{Put, ChangesBy, same}
-use Rattle.vault.specs.declared.Reply.{Reply}
+use Rattle.lent.specs.Entries.{Put, ChangesBy, same}
+use Rattle.lent.specs.declared.Reply.{Reply}
 use Rattle.demands.specs.Demand2.{Lines}
 use Rattle.demands.specs.Standings.{Converted, Standings}
 use Rattle.demands.proofs.Demand3.{first-read, begins-good}

@@ -22,8 +22,8 @@ use Rattle.times.specs.declared.Reading.{Reading}
 use Rattle.checking.specs.Answers.{Checked, verdictOf}
 use Rattle.checking.specs.declared.Finding.{Finding}
 use Rattle.checking.specs.declared.Verdict.{Verdict}
-use Rattle.vault.specs.Entries.{Put, ChangesBy, Changes, Tells, Judges, Lends, Compared, KeptAt, same}
-use Rattle.vault.specs.declared.Reply.{Reply}
+use Rattle.lent.specs.Entries.{Put, ChangesBy, Changes, Tells, Judges, Lends, Compared, KeptAt, same}
+use Rattle.lent.specs.declared.Reply.{Reply}
 
 -- What a caller lends to be changed and has back: nothing, a sheet, or bytes. What is lent to be read alone cannot change.
 pub data Lent : Type 0 where

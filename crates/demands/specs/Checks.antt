@@ -16,8 +16,8 @@ use Rattle.checking.specs.declared.Fault.{Fault}
 use Rattle.checking.specs.declared.Finding.{Finding}
 use Rattle.checking.specs.declared.Finding.the-variants.{Fitting, Faulty}
 use Rattle.checking.specs.declared.Verdict.{Verdict}
-use Rattle.vault.specs.Entries.{Holds, Lends, Judges}
-use Rattle.vault.specs.declared.Reply.{Reply}
+use Rattle.lent.specs.Entries.{Holds, Lends, Judges}
+use Rattle.lent.specs.declared.Reply.{Reply}
 
 -- the list fits the class of the sheet: it covers what is in, and nothing that is out
 abbrev pub FitsClass : Sheet → List ℕ → Type 0

@@ -19,8 +19,8 @@ use Rattle.sheet.specs.declared.Sheet.{Sheet}
 use Rattle.sheet.specs.declared.Value.{Value}
 use Rattle.listing.specs.Listing.{totalOf, Listed, Totalled}
 use Rattle.stored.specs.Fields.{Bytes}
-use Rattle.vault.specs.Entries.{Holds, Lends}
-use Rattle.vault.specs.declared.Reply.{Reply}
+use Rattle.lent.specs.Entries.{Holds, Lends}
+use Rattle.lent.specs.declared.Reply.{Reply}
 
 -- the lines of a record
 pub record Lines (r : Record) (l : List ℕ) : Type 0 where

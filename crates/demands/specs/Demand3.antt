@@ -28,9 +28,9 @@ use Rattle.pla.specs.Reading.{PlaSays}
 use Rattle.pla.specs.Answers.{ReadsPla}
 use Rattle.histories.specs.Histories.{numberOf, after, afterAll, numbersOf, sheetAfter, numberGiven, Given}
 use Rattle.histories.specs.Travels.{Event, Lives, eventNumber, afterEvent}
-use Rattle.vault.specs.Entries.{replied, Put, ChangesBy, Tells, Lends, KeptAt, same}
+use Rattle.lent.specs.Entries.{replied, Put, ChangesBy, Tells, Lends, KeptAt, same}
 use Rattle.vault.specs.Sequences.{Entry, Serves, entryNumber, afterEntry}
-use Rattle.vault.specs.declared.Reply.{Reply}
+use Rattle.lent.specs.declared.Reply.{Reply}
 
 -- how a history begins, and with which record: with an opened sheet, under a profile or without one, with what was read, of today's form or 01's, or
 -- with what a PLA text draws (a refused one gives the sheet of `opening 1`: `demand-1`)

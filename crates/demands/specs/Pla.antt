@@ -25,8 +25,8 @@ use Rattle.pla.specs.Sayings.{cube, Says}
 use Rattle.pla.specs.Reading.{PlaSays, Drawn}
 use Rattle.pla.specs.Writing.{plaText}
 use Rattle.pla.specs.Answers.{ReadsPla, WritesPla}
-use Rattle.vault.specs.Entries.{Holds, ChangesBy, Lends, same}
-use Rattle.vault.specs.declared.Reply.{Reply}
+use Rattle.lent.specs.Entries.{Holds, ChangesBy, Lends, same}
+use Rattle.lent.specs.declared.Reply.{Reply}
 use Rattle.demands.specs.Demand2.{Lines}
 
 -- the sheet that the text t draws

@@ -26,8 +26,8 @@ use Rattle.stored.specs.Answers.{ReadsBy}
 use Rattle.stored.specs.declared.Layout.the-variants.{First}
 use Rattle.stored.specs.declared.Section.the-variants.{Class, Either, Held}
 use Rattle.histories.specs.Histories.{Good, numberOf, accepted, after, afterAll}
-use Rattle.vault.specs.Entries.{ChangesBy, same}
-use Rattle.vault.specs.declared.Reply.{Reply}
+use Rattle.lent.specs.Entries.{ChangesBy, same}
+use Rattle.lent.specs.declared.Reply.{Reply}
 use Rattle.demands.specs.Demand2.{Lines}
 use Rattle.demands.specs.Demand3.{Begins}
 

@@ -25,8 +25,8 @@ use Rattle.histories.specs.Travels.{eventNumber, travel}
 use Rattle.histories.proofs.Kept.{did-kept}
 use Rattle.histories.proofs.Goods.{good-after, good-opened, good-opened-under}
 use Rattle.histories.proofs.Travels.{form-kept, written-number, five, good-storable}
-use Rattle.vault.specs.declared.Reply.{Reply}
-use Rattle.vault.specs.Entries.{Holds, HoldsNone, Put, ChangesBy, Changes, same}
+use Rattle.lent.specs.declared.Reply.{Reply}
+use Rattle.lent.specs.Entries.{Holds, HoldsNone, Put, ChangesBy, Changes, same}
 use Rattle.vault.specs.Sequences.{Entry, changing, copying, lentTo, callOf, Serves, rests, accepted, refused, callNumber, called, entryNumber, afterEntry}
 
 reads-form : (r : Record) → Good r → {a : Read} → Reads mostMarks entries (form r) a → a ≡ readOf entries (good r)

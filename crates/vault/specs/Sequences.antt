@@ -13,8 +13,8 @@ use Rattle.sheet.specs.declared.Sheet.{Sheet}
 use Rattle.sheet.specs.declared.Answer.{Answer}
 use Rattle.changes.specs.Calls.{didOf}
 use Rattle.changes.specs.declared.Call.{Call}
-use Rattle.vault.specs.declared.Reply.{Reply}
-use Rattle.vault.specs.Entries.{Changes, same}
+use Rattle.lent.specs.declared.Reply.{Reply}
+use Rattle.lent.specs.Entries.{Changes, same}
 
 -- an entry that writes a sheet to the bytes lent for it: a changed one, or the same
 pub data Entry : Type 0 where

@@ -1,6 +1,6 @@
 -- By what the comparison decides.
 use borrow.Author.Needs.{needs}
-use Rattle.vault.proofs.Replies.{second-before, first-keeps}
+use Rattle.lent.proofs.Replies.{second-before, first-keeps}
 use Rattle.ground.proofs.Cases.{clash}
 use Rattle.vault.proofs.vault_before.Statement.{statement}
 use Rattle.vault.proofs.vault_before.Tie as tie

@@ -1,7 +1,7 @@
 -- The bytes hold a sound sheet, which is written again, or none.
 use borrow.Author.Needs.{needs}
 use Rattle.stored.specs.declared.Layout.the-variants.{Today}
-use Rattle.vault.proofs.Replies.{holds-ready, changes-read}
+use Rattle.lent.proofs.Replies.{holds-ready, changes-read}
 use Rattle.vault.proofs.vault_copy.Statement.{statement}
 use Rattle.vault.proofs.vault_copy.Tie as tie
 

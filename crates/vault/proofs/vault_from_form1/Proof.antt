@@ -1,7 +1,7 @@
 -- 01's form is read as a sound sheet, which is written, or is refused.
 use borrow.Author.Needs.{needs}
 use Rattle.stored.specs.declared.Layout.the-variants.{First}
-use Rattle.vault.proofs.Replies.{holds-ready, changes-read}
+use Rattle.lent.proofs.Replies.{holds-ready, changes-read}
 use Rattle.vault.proofs.vault_from_form1.Statement.{statement}
 use Rattle.vault.proofs.vault_from_form1.Tie as tie
 

@@ -3,7 +3,7 @@ use native.Mathlib.Omega.{arith}
 use borrow.Author.Needs.{needs}
 use Rattle.sheet.specs.Limits.{mostMarks, entries}
 use Rattle.pla.proofs.Sound.{reads-pla-sound}
-use Rattle.vault.proofs.Replies.{changes-read}
+use Rattle.lent.proofs.Replies.{changes-read}
 use Rattle.vault.proofs.vault_read_pla.Statement.{statement}
 use Rattle.vault.proofs.vault_read_pla.Tie as tie
 

@@ -1,11 +1,11 @@
 -- What was read is the sheet that is written, or is refused.
 use mathlib.Core.Path.{refl}
 use borrow.Author.Needs.{needs}
-use Rattle.vault.specs.Entries.ChangesBy.{unread}
-use Rattle.vault.specs.Entries.{noReply}
-use Rattle.vault.proofs.Replies.{holds, holds-none, put-called}
-use Rattle.vault.proofs.rewritten.Statement.{statement}
-use Rattle.vault.proofs.rewritten.Tie as tie
+use Rattle.lent.specs.Entries.ChangesBy.{unread}
+use Rattle.lent.specs.Entries.{noReply}
+use Rattle.lent.proofs.Replies.{holds, holds-none, put-called}
+use Rattle.lent.proofs.rewritten.Statement.{statement}
+use Rattle.lent.proofs.rewritten.Tie as tie
 
 returns : tie.Need-returns
 returns c = unread (holds-none noReply (c .before .before .before .before .args .r) refl (c .before .if1 .taken) (c .unread .ensures))

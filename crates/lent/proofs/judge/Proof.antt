@@ -4,11 +4,11 @@ use Rattle.stored.specs.declared.Layout.the-variants.{Today}
 use Rattle.sheet.specs.Limits.{mostMarks}
 use Rattle.sheet.proofs.Ready.{class-of-ready}
 use Rattle.checking.specs.Answers.{Checked, verdictOf}
-use Rattle.vault.specs.Entries.{noVerdict}
-use Rattle.vault.specs.Entries.TellsAs.{unread}
-use Rattle.vault.proofs.Replies.{holds, holds-none, holds-ready, told-as}
-use Rattle.vault.proofs.vault_check_list.Statement.{statement}
-use Rattle.vault.proofs.vault_check_list.Tie as tie
+use Rattle.lent.specs.Entries.{noVerdict}
+use Rattle.lent.specs.Entries.TellsAs.{unread}
+use Rattle.lent.proofs.Replies.{holds, holds-none, holds-ready, told-as}
+use Rattle.lent.proofs.judge.Statement.{statement}
+use Rattle.lent.proofs.judge.Tie as tie
 
 returns : tie.Need-returns
 returns c = unread (holds-none noVerdict _ (c .before .before .before .read .ensures) (c .before .if1 .taken) (c .unjudged .ensures))
@@ -21,6 +21,6 @@ returns-2 c =
     told-as noVerdict verdictOf (λ s. Checked mostMarks s (c .before .before .before .before .before .before .before .before .args .list .now))
     (holds _ (c .before .before .before .before .before .read .ensures) (c .before .before .before .if1 .left)) (c .before .check-sound .ensures) (c .verdict-of .ensures)
 
-pub vault-check-list-spec : {M : Type 1} → statement M
-vault-check-list-spec =
+pub judge-spec : {M : Type 1} → statement M
+judge-spec =
     tie.close (tie.spec (λ c κs. search needs) (λ c κs. search needs) returns check-sound-requires (λ c κs. search needs) returns-2)

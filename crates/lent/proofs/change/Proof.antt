@@ -6,11 +6,11 @@ use Rattle.sheet.specs.Limits.{mostMarks}
 use Rattle.sheet.specs.Sound.{Ready}
 use Rattle.sheet.specs.declared.Answer.{Answer}
 use Rattle.changes.proofs.Keeps.{ready-kept}
-use Rattle.vault.specs.Entries.ChangesBy.{unread}
-use Rattle.vault.specs.Entries.{noReply}
-use Rattle.vault.proofs.Replies.{holds, holds-none, holds-long, holds-ready, put-called}
-use Rattle.vault.proofs.change.Statement.{statement}
-use Rattle.vault.proofs.change.Tie as tie
+use Rattle.lent.specs.Entries.ChangesBy.{unread}
+use Rattle.lent.specs.Entries.{noReply}
+use Rattle.lent.proofs.Replies.{holds, holds-none, holds-long, holds-ready, put-called}
+use Rattle.lent.proofs.change.Statement.{statement}
+use Rattle.lent.proofs.change.Tie as tie
 
 returns : tie.Need-returns
 returns c = unread (holds-none noReply _ (c .before .before .before .read .ensures) (c .before .if1 .taken) (c .unread .ensures))

@@ -1,8 +1,8 @@
 -- Each arm is what a sheet that is fit for the list lends.
 use borrow.Author.Needs.{needs}
-use Rattle.vault.proofs.Replies.{laid-lines, laid-pla}
-use Rattle.vault.proofs.lay.Statement.{statement}
-use Rattle.vault.proofs.lay.Tie as tie
+use Rattle.lent.proofs.Replies.{laid-lines, laid-pla}
+use Rattle.lent.proofs.lay.Statement.{statement}
+use Rattle.lent.proofs.lay.Tie as tie
 
 returns : tie.Need-returns
 returns c = laid-lines (c .before .before .before .before .enum-told .given .1) (c .before .before .list-sound .ensures)

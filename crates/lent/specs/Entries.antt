@@ -14,7 +14,7 @@ use Rattle.stored.specs.Answers.{Reads, Writes}
 use Rattle.stored.specs.declared.Read.{Read}
 use Rattle.checking.specs.Answers.{Checked, verdictOf}
 use Rattle.checking.specs.declared.Verdict.{Verdict}
-use Rattle.vault.specs.declared.Reply.{Reply}
+use Rattle.lent.specs.declared.Reply.{Reply}
 
 -- a reply with a number and a value
 abbrev pub replied : ℕ → ℕ → Reply

@@ -1,4 +1,4 @@
--- An entry's two ways: the bytes are no sheet, or the call's own answer goes into the reply.
+-- The two ways of a call on lent bytes: the bytes are no sheet, or the call's own answer goes into the reply.
 use Prim.Native.Nat.{ℕ, _<_}
 use mathlib.Core.Path.{_≡_, refl, sym, _∙_, ap, subst}
 use mathlib.Core.List.{List}
@@ -22,11 +22,11 @@ use Rattle.stored.specs.declared.Layout.{Layout}
 use Rattle.stored.specs.Fields.{Outcome, good, refused}
 use Rattle.stored.specs.declared.Read.{Read}
 use Rattle.stored.proofs.Trips.{read-sound}
-use Rattle.vault.specs.declared.Reply.{Reply}
-use Rattle.vault.specs.declared.Wanted.{Wanted}
-use Rattle.vault.specs.declared.Wanted.the-variants.{Lines, Pla}
-use Rattle.vault.specs.Parts.{LaidAs}
-use Rattle.vault.specs.Entries.{replied, valued, HoldsBy, HoldsNoneBy, Holds, Put, ChangesBy, TellsAs, Lends, Compared}
+use Rattle.lent.specs.declared.Reply.{Reply}
+use Rattle.lent.specs.declared.Wanted.{Wanted}
+use Rattle.lent.specs.declared.Wanted.the-variants.{Lines, Pla}
+use Rattle.lent.specs.Parts.{LaidAs}
+use Rattle.lent.specs.Entries.{replied, valued, HoldsBy, HoldsNoneBy, Holds, Put, ChangesBy, TellsAs, Lends, Compared}
 
 -- whichever way of reading
 

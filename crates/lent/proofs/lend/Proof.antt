@@ -2,12 +2,12 @@
 use borrow.Author.Needs.{needs}
 use Rattle.stored.specs.declared.Layout.the-variants.{Today}
 use Rattle.sheet.proofs.Ready.{class-of-ready}
-use Rattle.vault.specs.Entries.Lends.{unread}
-use Rattle.vault.specs.Parts.{LaidAs}
-use Rattle.vault.specs.Entries.{noReply}
-use Rattle.vault.proofs.Replies.{holds, holds-none, holds-ready, value-lent}
-use Rattle.vault.proofs.lend.Statement.{statement}
-use Rattle.vault.proofs.lend.Tie as tie
+use Rattle.lent.specs.Entries.Lends.{unread}
+use Rattle.lent.specs.Parts.{LaidAs}
+use Rattle.lent.specs.Entries.{noReply}
+use Rattle.lent.proofs.Replies.{holds, holds-none, holds-ready, value-lent}
+use Rattle.lent.proofs.lend.Statement.{statement}
+use Rattle.lent.proofs.lend.Tie as tie
 
 returns : tie.Need-returns
 returns c = unread (holds-none noReply _ (c .before .before .before .read .ensures) (c .before .if1 .taken) (c .unread .ensures))

@@ -5,8 +5,8 @@ use native.Mathlib.Omega.{arith}
 use lib.ListN.{List·getD-eq-default, length}
 use borrow.Author.Needs.{needs}
 use Rattle.sheet.specs.Limits.{entries}
-use Rattle.vault.proofs.kept.Statement.{statement}
-use Rattle.vault.proofs.kept.Tie as tie
+use Rattle.lent.proofs.kept.Statement.{statement}
+use Rattle.lent.proofs.kept.Tie as tie
 
 long : (c : tie.Start) → length (c .args .t1) ≡ entries
 long c = search needs

@@ -8,11 +8,11 @@ use Rattle.sheet.specs.declared.Sheet.{Sheet}
 use Rattle.sheet.specs.declared.Value.{Value}
 use Rattle.listing.specs.Listing.{Listed, Totalled}
 use Rattle.pla.specs.Answers.{WritesPla}
-use Rattle.vault.specs.declared.Question.{Question}
-use Rattle.vault.specs.declared.Question.the-variants.{Size, Total, Outside, Either, Held}
-use Rattle.vault.specs.declared.Wanted.{Wanted}
-use Rattle.vault.specs.declared.Wanted.the-variants.{Lines, Pla}
-use Rattle.vault.specs.Entries.{KeptAt}
+use Rattle.lent.specs.declared.Question.{Question}
+use Rattle.lent.specs.declared.Question.the-variants.{Size, Total, Outside, Either, Held}
+use Rattle.lent.specs.declared.Wanted.{Wanted}
+use Rattle.lent.specs.declared.Wanted.the-variants.{Lines, Pla}
+use Rattle.lent.specs.Entries.{KeptAt}
 
 -- what a sheet answers to a question
 abbrev pub AnswerTo : Question → Sheet → Value → Type 0

@@ -1,12 +1,12 @@
 -- The bytes hold a sound sheet, which answers, or none.
 use borrow.Author.Needs.{needs}
 use Rattle.stored.specs.declared.Layout.the-variants.{Today}
-use Rattle.vault.specs.Entries.TellsAs.{unread}
-use Rattle.vault.specs.Parts.{AnswerTo}
-use Rattle.vault.specs.Entries.{noReply, valued}
-use Rattle.vault.proofs.Replies.{holds, holds-none, holds-ready, told-as}
-use Rattle.vault.proofs.tell.Statement.{statement}
-use Rattle.vault.proofs.tell.Tie as tie
+use Rattle.lent.specs.Entries.TellsAs.{unread}
+use Rattle.lent.specs.Parts.{AnswerTo}
+use Rattle.lent.specs.Entries.{noReply, valued}
+use Rattle.lent.proofs.Replies.{holds, holds-none, holds-ready, told-as}
+use Rattle.lent.proofs.tell.Statement.{statement}
+use Rattle.lent.proofs.tell.Tie as tie
 
 returns : tie.Need-returns
 returns c = unread (holds-none noReply _ (c .before .before .before .read .ensures) (c .before .if1 .taken) (c .unread .ensures))

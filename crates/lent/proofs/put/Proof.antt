@@ -1,8 +1,8 @@
 -- A refusal writes nothing; else the sheet is written, which is sound.
 use borrow.Author.Needs.{needs}
-use Rattle.vault.proofs.Replies.{put-refused, put-written}
-use Rattle.vault.proofs.put.Statement.{statement}
-use Rattle.vault.proofs.put.Tie as tie
+use Rattle.lent.proofs.Replies.{put-refused, put-written}
+use Rattle.lent.proofs.put.Statement.{statement}
+use Rattle.lent.proofs.put.Tie as tie
 
 returns : tie.Need-returns
 returns c = put-refused _ _ (c .before .if1 .taken) (c .replied .ensures)

@@ -2,11 +2,11 @@
 use mathlib.Core.Path.{sym, subst}
 use borrow.Author.Needs.{needs}
 use Rattle.sheet.proofs.Ready.{class-of-ready}
-use Rattle.vault.specs.declared.Question.{Question}
-use Rattle.vault.specs.Parts.{AnswerTo}
-use Rattle.vault.proofs.Replies.{size-answered, total-answered}
-use Rattle.vault.proofs.answer.Statement.{statement}
-use Rattle.vault.proofs.answer.Tie as tie
+use Rattle.lent.specs.declared.Question.{Question}
+use Rattle.lent.specs.Parts.{AnswerTo}
+use Rattle.lent.proofs.Replies.{size-answered, total-answered}
+use Rattle.lent.proofs.answer.Statement.{statement}
+use Rattle.lent.proofs.answer.Tie as tie
 
 size-sound-requires : tie.Need-size-sound-requires
 size-sound-requires c κs = class-of-ready (c .before .before .before .before .before .pre)
