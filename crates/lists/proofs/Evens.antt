@@ -3,7 +3,7 @@
 use mathlib.Core.Path.{_≡_, refl, sym, _∙_, ap, ap₂}
 use mathlib.Core.Bool.{Bool, true, false, not, cond, _&&_, false≢true}
 use mathlib.Core.List.{List, [], _∷_}
-use Prim.Native.Nat.{ℕ, zero, suc, _+_, _*_, _-_, _/_, _%_, _^_, _<_, _≤_}
+use Prim.Native.Nat.{ℕ, zero, suc, _+_, _*_, _-_, _/_, _%_, _^_, _<_}
 use native.Mathlib.Nat.{pow-suc}
 use native.Mathlib.Omega.{arith}
 use lib.Dec.{eqb, ltb}
@@ -15,7 +15,7 @@ use Rattle.boxes.specs.Sums.{sum, sumOver, only}
 use Rattle.boxes.proofs.Boxes.{contains-even, contains-odd, sumIn-count}
 use Rattle.boxes.proofs.Choices.{lowest-contained}
 use Rattle.boxes.proofs.Sums.{sum-ext, sum-add, sum-ones, sum-pairs}
-use Rattle.lists.specs.Lists.{Boxes, covered, Fits, Small, AtLeast, mostLines}
+use Rattle.lists.specs.Lists.{Boxes, covered, Small, AtLeast, mostLines}
 use Rattle.lists.proofs.Count.{covered-in, covered-more, lines-sum}
 
 -- an even number of the lowest m marks of c is on
