@@ -13,7 +13,7 @@ use Rattle.dates.specs.declared.date.Date.{Date}
 use Rattle.dates.proofs.Calendar.{day-month, not-past, past, month-kept}
 use Rattle.sheet.specs.Record.{opened}
 use Rattle.changes.specs.declared.Call.{Call}
-use Rattle.listing.specs.Listing.{totalOf}
+use Rattle.totals.specs.Totals.{totalOf}
 use Rattle.histories.specs.Histories.{Good, numberOf, accepted, afterAll}
 use Rattle.bookings.specs.Bookings.{Booking, undated, on, History, begun, callOf, calls, any, upTo, recordNow, monthTotal, lastOf, lastDate, dateOk, withBooking}
 use Rattle.bookings.specs.Months.{Accepts, none, Kept}

@@ -7,7 +7,7 @@ use Rattle.dates.specs.Gregorian.{isDay, earlier, lastDay}
 use Rattle.dates.specs.declared.date.Date.{Date}
 use Rattle.sheet.specs.Record.{Record, opened}
 use Rattle.changes.specs.declared.Call.{Call}
-use Rattle.listing.specs.Listing.{totalOf}
+use Rattle.totals.specs.Totals.{totalOf}
 use Rattle.histories.specs.Histories.{numberOf, accepted, afterAll}
 
 -- a call of the opening stock, or one on a day

@@ -1,7 +1,8 @@
 -- Call by call.
 use Rattle.sheet.proofs.Agrees.{size-alike}
 use Rattle.changes.proofs.Above.{did-alike, did-above}
-use Rattle.listing.proofs.Agrees.{list-alike, total-alike}
+use Rattle.listing.proofs.Agrees.{list-alike}
+use Rattle.totals.proofs.Agrees.{total-alike}
 use Rattle.checking.proofs.Agrees.{check-alike}
 use Rattle.stored.proofs.Agrees.{writes-alike}
 use Rattle.pla.proofs.Agrees.{writes-pla-alike}

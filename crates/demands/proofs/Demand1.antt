@@ -24,7 +24,8 @@ use Rattle.sheet.proofs.Answers.{open-done, open-refused, open-under-done, open
 use Rattle.changes.specs.Calls.{countsFit, fitsAmount, changeNo, amountNo, numberOn, didOf, moveOf, movedSheet}
 use Rattle.changes.specs.declared.Call.{Call}
 use Rattle.changes.specs.declared.Call.the-variants.{Change, Receive, Withdraw}
-use Rattle.listing.specs.Listing.{Listed, Totalled}
+use Rattle.listing.specs.Listing.{Listed}
+use Rattle.totals.specs.Totals.{Totalled}
 use Rattle.stored.specs.Fields.{marks, due, Outcome, good, refused, Run}
 use Rattle.stored.specs.Answers.{readOf, ReadBy, Writes}
 use Rattle.stored.specs.Sections.{Rest}

@@ -26,9 +26,10 @@ use Rattle.sheet.proofs.Told.{in-not-out}
 use Rattle.sheet.specs.Sound.{ClassReady, recordOf}
 use Rattle.sheet.specs.declared.Sheet.{Sheet}
 use Rattle.sheet.specs.declared.Value.{Value}
-use Rattle.listing.specs.Listing.{totalOf, Listed, Totalled}
+use Rattle.listing.specs.Listing.{Listed}
+use Rattle.totals.specs.Totals.{totalOf, Totalled}
 use Rattle.listing.proofs.Laid.{class-small, list-laid}
-use Rattle.listing.proofs.Lines.{kept-total}
+use Rattle.totals.proofs.Lines.{kept-total}
 use Rattle.stored.specs.Fields.{Bytes}
 use Rattle.stored.specs.declared.Layout.the-variants.{Today}
 use Rattle.lent.specs.Entries.{Holds, Lends}

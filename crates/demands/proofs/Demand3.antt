@@ -26,7 +26,8 @@ use Rattle.changes.specs.Calls.{moveOf}
 use Rattle.changes.specs.declared.Call.{Call}
 use Rattle.changes.proofs.Alters.{did-alters}
 use Rattle.changes.proofs.Tests.{accepts}
-use Rattle.listing.specs.Listing.{totalOf, Listed, Totalled}
+use Rattle.listing.specs.Listing.{Listed}
+use Rattle.totals.specs.Totals.{totalOf, Totalled}
 use Rattle.stored.specs.Answers.{readOf, ReadsBy}
 use Rattle.stored.specs.Fields.{good, ReadingBy}
 use Rattle.stored.specs.declared.Layout.the-variants.{First, Today}

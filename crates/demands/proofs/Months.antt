@@ -9,7 +9,7 @@ use Rattle.sheet.specs.Record.{Record}
 use Rattle.sheet.specs.Answers.{openOf}
 use Rattle.sheet.specs.declared.Answer.{Answer}
 use Rattle.sheet.proofs.Answers.{open-done}
-use Rattle.listing.specs.Listing.{totalOf}
+use Rattle.totals.specs.Totals.{totalOf}
 use Rattle.ground.specs.Texts.{ascii}
 use Rattle.machine.specs.Pieces.{in-line, start, Takes}
 use Rattle.machine.proofs.Outputs.{takes-kept}

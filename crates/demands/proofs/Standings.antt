@@ -24,7 +24,7 @@ use Rattle.sheet.proofs.Kept.{told-back}
 use Rattle.changes.specs.Calls.{fitsAmount, amountNo}
 use Rattle.changes.specs.declared.Call.the-variants.{Change, Receive}
 use Rattle.changes.proofs.Tests.{change-own, amount-2, amount-4, amount-last, amount-0}
-use Rattle.listing.specs.Listing.{Totalled}
+use Rattle.totals.specs.Totals.{Totalled}
 use Rattle.stored.specs.Fields.{Bytes, good, ReadingBy}
 use Rattle.stored.specs.Form.{section, profileBytes, formBy, form}
 use Rattle.stored.specs.declared.Section.the-variants as Sections

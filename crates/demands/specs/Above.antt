@@ -9,7 +9,8 @@ use Rattle.sheet.specs.declared.Value.{Value}
 use Rattle.changes.specs.Calls.{didOf}
 use Rattle.changes.specs.Promises.{Alike, AboveKept}
 use Rattle.changes.specs.declared.Call.{Call}
-use Rattle.listing.specs.Listing.{Listed, Totalled}
+use Rattle.listing.specs.Listing.{Listed}
+use Rattle.totals.specs.Totals.{Totalled}
 use Rattle.checking.specs.Answers.{Checked}
 use Rattle.checking.specs.declared.Finding.{Finding}
 use Rattle.stored.specs.Answers.{Writes}

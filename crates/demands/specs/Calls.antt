@@ -9,7 +9,8 @@ use Rattle.sheet.specs.declared.Sheet.{Sheet}
 use Rattle.sheet.specs.declared.Value.{Value}
 use Rattle.changes.specs.Calls.{didOf}
 use Rattle.changes.specs.declared.Call.{Call}
-use Rattle.listing.specs.Listing.{Listed, Totalled}
+use Rattle.listing.specs.Listing.{Listed}
+use Rattle.totals.specs.Totals.{Totalled}
 use Rattle.stored.specs.Answers.{ReadsBy, Reads, Writes}
 use Rattle.stored.specs.declared.Layout.the-variants.{First}
 use Rattle.stored.specs.declared.Read.{Read}

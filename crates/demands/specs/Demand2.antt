@@ -17,7 +17,8 @@ use Rattle.sheet.specs.Record.{Record, inClass, notOut, NoneEither}
 use Rattle.sheet.specs.Sound.{ClassReady, recordOf}
 use Rattle.sheet.specs.declared.Sheet.{Sheet}
 use Rattle.sheet.specs.declared.Value.{Value}
-use Rattle.listing.specs.Listing.{totalOf, Listed, Totalled}
+use Rattle.listing.specs.Listing.{Listed}
+use Rattle.totals.specs.Totals.{totalOf, Totalled}
 use Rattle.stored.specs.Fields.{Bytes}
 use Rattle.lent.specs.Entries.{Holds, Lends}
 use Rattle.lent.specs.declared.Reply.{Reply}

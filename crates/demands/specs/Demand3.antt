@@ -18,7 +18,8 @@ use Rattle.sheet.specs.declared.Value.{Value}
 use Rattle.changes.specs.Calls.{didOf, moveOf}
 use Rattle.changes.specs.Promises.{Altered}
 use Rattle.changes.specs.declared.Call.{Call}
-use Rattle.listing.specs.Listing.{totalOf, Listed, Totalled}
+use Rattle.listing.specs.Listing.{Listed}
+use Rattle.totals.specs.Totals.{totalOf, Totalled}
 use Rattle.stored.specs.Fields.{Bytes, good, ReadingBy, Reading}
 use Rattle.stored.specs.Answers.{ReadsBy}
 use Rattle.stored.specs.declared.Layout.{Layout}

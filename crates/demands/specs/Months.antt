@@ -14,7 +14,7 @@ use Rattle.sheet.specs.Answers.{openOf}
 use Rattle.sheet.specs.declared.Sheet.{Sheet}
 use Rattle.sheet.specs.declared.Value.{Value}
 use Rattle.changes.specs.declared.Call.{Call}
-use Rattle.listing.specs.Listing.{Totalled}
+use Rattle.totals.specs.Totals.{Totalled}
 use Rattle.histories.specs.Histories.{numberOf, afterAll, numbersOf, sheetAfter, numberGiven}
 use Rattle.machine.specs.Rows.{Row}
 use Rattle.machine.specs.Pieces.{in-line, start, Takes, InPieces}

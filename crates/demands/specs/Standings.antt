@@ -19,7 +19,7 @@ use Rattle.sheet.specs.declared.Value.{Value}
 use Rattle.changes.specs.Calls.{didOf}
 use Rattle.changes.specs.declared.Call.{Call}
 use Rattle.changes.specs.declared.Call.the-variants.{Change, Receive}
-use Rattle.listing.specs.Listing.{Totalled}
+use Rattle.totals.specs.Totals.{Totalled}
 use Rattle.stored.specs.Fields.{Bytes, good, ReadingBy}
 use Rattle.stored.specs.Form.{section, profileBytes, formBy, form}
 use Rattle.stored.specs.Answers.{ReadsBy}

@@ -23,7 +23,8 @@ use Rattle.sheet.specs.declared.Sheet.{Sheet}
 use Rattle.sheet.specs.declared.Value.{Value}
 use Rattle.sheet.proofs.Opening.{combinations-fit}
 use Rattle.sheet.proofs.Limits.{boxes-fit, marks-most}
-use Rattle.listing.specs.Listing.{taken, totalOf, Listed, Totalled}
+use Rattle.listing.specs.Listing.{Listed}
+use Rattle.totals.specs.Totals.{taken, totalOf, Totalled}
 use Rattle.listing.proofs.Laid.{lines-fit, laid-few, laid-inside, laid-is}
 use Rattle.histories.specs.Histories.{Good, Given}
 use Rattle.histories.proofs.Afresh.{kept-afresh, size-afresh, total-afresh, list-afresh}

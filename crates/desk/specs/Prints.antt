@@ -14,7 +14,7 @@ use Rattle.sheet.specs.Limits.{mostMarks, marksOk}
 use Rattle.sheet.specs.Record.{Record, opened, inClass, notOut}
 use Rattle.sheet.specs.Sound.{sizeOf}
 use Rattle.changes.specs.declared.Call.{Call}
-use Rattle.listing.specs.Listing.{totalOf}
+use Rattle.totals.specs.Totals.{totalOf}
 use Rattle.histories.specs.Histories.{numberOf, after}
 use Rattle.machine.specs.Rows.{Row}
 use Rattle.machine.specs.Machine.{Machine, Output, refusal, spoken}

@@ -71,7 +71,7 @@ pub fn result(out: &mut [u8], at: usize, sheet: Sheet) -> usize
     let size = sheet.class_size();
     let mut area = listing::area();
     let count = listing::list(sheet, &mut area);
-    let total = listing::total(sheet);
+    let total = totals::total(sheet);
     let n = count.value as usize;
     let a = put_heads(out, at, size.value, count.value);
     let b = put_lines(out, a, m, &held, &area[..n]);

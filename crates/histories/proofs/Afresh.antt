@@ -25,7 +25,8 @@ use Rattle.sheet.specs.declared.Value.{Value}
 use Rattle.sheet.proofs.Kept.{class-sound, standing-told, times-sound}
 use Rattle.sheet.proofs.Ready.{class-of-ready}
 use Rattle.sheet.proofs.Limits.{boxes-fit}
-use Rattle.listing.specs.Listing.{totalOf, Laid, Listed, Totalled}
+use Rattle.listing.specs.Listing.{Laid, Listed}
+use Rattle.totals.specs.Totals.{totalOf, Totalled}
 use Rattle.listing.proofs.Laid.{list-laid}
 use Rattle.histories.specs.Histories.{Good, Given}
 

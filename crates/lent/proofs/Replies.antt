@@ -12,7 +12,8 @@ use Rattle.sheet.specs.Entries.{Long}
 use Rattle.sheet.specs.Sound.{Ready, sizeOf, recordOf}
 use Rattle.sheet.specs.Answers.{ClassSize}
 use Rattle.sheet.proofs.Ready.{class-of-ready}
-use Rattle.listing.specs.Listing.{totalOf, Listed, Totalled}
+use Rattle.listing.specs.Listing.{Listed}
+use Rattle.totals.specs.Totals.{totalOf, Totalled}
 use Rattle.pla.specs.Answers.{WritesPla}
 use Rattle.sheet.specs.declared.Sheet.{Sheet}
 use Rattle.sheet.specs.declared.Answer.{Answer}

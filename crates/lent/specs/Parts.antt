@@ -6,7 +6,8 @@ use Rattle.sheet.specs.Record.{outside-counts, either-counts, held-seconds}
 use Rattle.sheet.specs.Answers.{ClassSize}
 use Rattle.sheet.specs.declared.Sheet.{Sheet}
 use Rattle.sheet.specs.declared.Value.{Value}
-use Rattle.listing.specs.Listing.{Listed, Totalled}
+use Rattle.listing.specs.Listing.{Listed}
+use Rattle.totals.specs.Totals.{Totalled}
 use Rattle.pla.specs.Answers.{WritesPla}
 use Rattle.lent.specs.declared.Question.{Question}
 use Rattle.lent.specs.declared.Question.the-variants.{Size, Total, Outside, Either, Held}

@@ -122,7 +122,7 @@ fn answer(s: Sheet, q: Question) -> Value
     let held = s.held;
     match q {
         Question::Size => done(s.size_sound()),
-        Question::Total => done(listing::total_sound(s)),
+        Question::Total => done(totals::total_sound(s)),
         Question::Outside(b) => kept(outside, b),
         Question::Either(b) => kept(either, b),
         Question::Held(b) => kept(held, b),

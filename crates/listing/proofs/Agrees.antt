@@ -1,6 +1,6 @@
--- Entries at 3^m and above are not read: two sheets that agree below get the same list and the same total.
+-- Entries at 3^m and above are not read: two sheets that agree below get the same list.
 use Prim.Native.Nat.{ℕ}
-use mathlib.Core.Path.{sym, ap, subst}
+use mathlib.Core.Path.{ap, subst}
 use mathlib.Core.List.{List}
 use native.Mathlib.Omega.{arith}
 use Rattle.lists.specs.Lists.{mostLines}
@@ -8,8 +8,8 @@ use Rattle.sheet.specs.Record.{Record, inClass, notOut}
 use Rattle.sheet.specs.Entries.{Agree}
 use Rattle.sheet.specs.declared.Sheet.{Sheet}
 use Rattle.sheet.specs.declared.Value.{Value}
-use Rattle.sheet.proofs.Agrees.{agree-back, record-same, class-ready-same, ready-same}
-use Rattle.listing.specs.Listing.{totalOf, Laid, Listed, Totalled}
+use Rattle.sheet.proofs.Agrees.{agree-back, record-same, class-ready-same}
+use Rattle.listing.specs.Listing.{Laid, Listed}
 
 pub list-alike : {most : ℕ} {s u : Sheet} {area later : List ℕ} {v : Value} → Agree s u → Listed most s area v later → Listed most u area v later
 list-alike a (Listed.spoiled n) = Listed.spoiled (λ r. n (class-ready-same (agree-back a) r))
@@ -17,8 +17,3 @@ list-alike a (Listed.short r l) = Listed.short (class-ready-same a r) (omega (ar
 list-alike {area = area} {later} a (Listed.given {n} r l w) =
     Listed.given (class-ready-same a r) (omega (arith, ap mostLines (a .marks)))
     (subst (λ (x : Record). Laid (x .marks) (inClass x) (notOut x) area n later) (record-same a) w)
-
-pub total-alike : {most : ℕ} {s u : Sheet} {v : Value} → Agree s u → Totalled most s v → Totalled most u v
-total-alike a (Totalled.spoiled n) = Totalled.spoiled (λ r. n (ready-same (agree-back a) r))
-total-alike {most} {s} {u} a (Totalled.told r) =
-    subst (λ (x : Record). Totalled most u (record { number = 0; value = totalOf x })) (sym (record-same a)) (Totalled.told (ready-same a r))

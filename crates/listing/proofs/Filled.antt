@@ -1,5 +1,5 @@
 -- The combinations of a test as bits, one by one: what stands after those below c. So the counts' zeros, and their `&`, are what a list may and must
--- cover. And what a combination adds to the total.
+-- cover.
 use Prim.Native.Nat.{ℕ, _+_, _*_, _^_, _<_, _≤_}
 use mathlib.Core.Path.{_≡_, refl, sym, _∙_, ap, ap₂, fun-ext}
 use mathlib.Core.Bool.{Bool, true, false, _&&_}
@@ -10,16 +10,11 @@ use lib.Dec.{eqb, ltb}
 use borrow.Author.Tests.{lt-ltb, le-ltb}
 use Rattle.ground.proofs.Cases.{below-or, same-or}
 use Rattle.boxes.proofs.Numbers.{power-next}
-use Rattle.boxes.specs.Boxes.{single}
-use Rattle.boxes.specs.Sums.{only}
 use Rattle.sets.specs.Sets.{has}
 use Rattle.sets.proofs.Bits.{has-and, has-zero, has-high, has-top, has-under}
-use Rattle.tables.specs.Tables.{entry, own}
-use Rattle.sheet.specs.Record.{inClass, sheetWith}
-use Rattle.sheet.specs.Sound.{recordOf}
-use Rattle.sheet.specs.declared.Sheet.{Sheet}
+use Rattle.tables.specs.Tables.{own}
+use Rattle.sheet.specs.Record.{sheetWith}
 use Rattle.sheet.proofs.Told.{told-in, told-not-out}
-use Rattle.listing.specs.Listing.{taken}
 use Rattle.listing.specs.Parts.{BitsOf}
 
 -- the combinations whose own count is 0
@@ -91,8 +86,3 @@ bits-of m outside either x y small hx hy = record {
       ∙ sym (told-in (sheetWith m p outside either held) c));
   room = λ p held. hx ∙ fun-ext (λ c. sym (told-not-out (sheetWith m p outside either held) c));
 }
-
--- a combination, whose single box is b, adds its seconds exactly if it has neither count
-pub taken-is : (s : Sheet) (c b : ℕ) → c < 2 ^ s .marks → b ≡ single (s .marks) c
-    → taken (inClass (recordOf s)) (own (s .marks) (s .held)) c ≡ only (eqb (entry (s .outside) b) 0 && eqb (entry (s .either) b) 0) (entry (s .held) b)
-taken-is s c b l e = rw (e, told-in s c, lt-ltb c (2 ^ s .marks) l)

@@ -2,5 +2,4 @@ pub mod Filled
 pub mod Given
 pub mod Laid
 pub mod Settled
-pub mod Lines
 pub mod Agrees

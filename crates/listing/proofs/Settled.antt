@@ -1,4 +1,4 @@
--- No two returns meet the contract of `list`, the lent area included, nor that of `total`.
+-- No two returns meet the contract of `list`, the lent area included.
 use Prim.Native.Nat.{ℕ}
 use mathlib.Core.Path.{_≡_, refl, sym, ap, _∙_}
 use mathlib.Core.Bool.{Bool}
@@ -8,7 +8,7 @@ use lib.ListN.{length, drop}
 use Rattle.lists.proofs.First.{unique}
 use Rattle.sheet.specs.declared.Sheet.{Sheet}
 use Rattle.sheet.specs.declared.Value.{Value}
-use Rattle.listing.specs.Listing.{Laid, Listed, Totalled}
+use Rattle.listing.specs.Listing.{Laid, Listed}
 
 laid-settled : {m : ℕ} {need room : ℕ → Bool} {area : List ℕ} {n k : ℕ} {x y : List ℕ} → Laid m need room area n x → Laid m need room area k y → (n ≡ k) × (x ≡ y)
 laid-settled {area = area} p q =
@@ -27,9 +27,3 @@ list-settled (Listed.given p l v) (Listed.short q k) = absurd (omega arith)
 list-settled (Listed.given p l v) (Listed.given q k w) =
     let e = laid-settled v w in
     (ap (λ (n : ℕ). record { number = 0; value = n }) (e .0), e .1)
-
-pub total-settled : {most : ℕ} {s : Sheet} {a z : Value} → Totalled most s a → Totalled most s z → a ≡ z
-total-settled (Totalled.spoiled p) (Totalled.spoiled q) = refl
-total-settled (Totalled.spoiled p) (Totalled.told q) = absurd (p q)
-total-settled (Totalled.told p) (Totalled.spoiled q) = absurd (q p)
-total-settled (Totalled.told p) (Totalled.told q) = refl

@@ -1,23 +1,14 @@
--- The list and the total of a sheet's class: the refusals by exact conditions, in 01's order, and otherwise what the values are.
-use Prim.Native.Nat.{ℕ, _^_, _<_, _≤_}
+-- The list of a sheet's class: the refusals by exact conditions, in 01's order, and otherwise what stands in the lent area.
+use Prim.Native.Nat.{ℕ, _<_, _≤_}
 use mathlib.Core.Path.{_≡_}
 use mathlib.Core.Bool.{Bool}
 use mathlib.Core.List.{List, _++_}
 use lib.ListN.{length, drop}
-use Rattle.boxes.specs.Sums.{sum, only}
 use Rattle.lists.specs.Lists.{FirstShortest, mostLines}
-use Rattle.sheet.specs.Record.{Record, inClass, notOut}
-use Rattle.sheet.specs.Sound.{ClassReady, Ready, recordOf}
+use Rattle.sheet.specs.Record.{inClass, notOut}
+use Rattle.sheet.specs.Sound.{ClassReady, recordOf}
 use Rattle.sheet.specs.declared.Sheet.{Sheet}
 use Rattle.sheet.specs.declared.Value.{Value}
-
--- what a combination adds to the class total: its seconds, if it is in the class
-abbrev pub taken : (ℕ → Bool) → (ℕ → ℕ) → ℕ → ℕ
-taken class times c = only (class c) (times c)
-
--- the seconds held in the class
-abbrev pub totalOf : Record → ℕ
-totalOf r = sum (2 ^ r .marks) (taken (inClass r) (r .times))
 
 -- a list of n boxes in a lent area: of the lists that cover `need` inside `room` the first shortest one, at the front, one byte for each box, and the bytes
 -- behind it as they were
@@ -34,8 +25,3 @@ pub data Listed (most : ℕ) (s : Sheet) (area : List ℕ) : Value → List ℕ 
   short : ClassReady most s → length area < mostLines (s .marks) → Listed most s area (record { number = 5; value = 0 }) area
   given : {n : ℕ} {later : List ℕ} → ClassReady most s → mostLines (s .marks) ≤ length area
       → Laid (s .marks) (inClass (recordOf s)) (notOut (recordOf s)) area n later → Listed most s area (record { number = 0; value = n }) later
-
--- what `total` answers: 7, or else the seconds held in the class
-pub data Totalled (most : ℕ) (s : Sheet) : Value → Type 0 where
-  spoiled : (Ready most s → ⊥) → Totalled most s (record { number = 7; value = 0 })
-  told : Ready most s → Totalled most s (record { number = 0; value = totalOf (recordOf s) })

@@ -81,7 +81,7 @@ fn told(job: u8, sheet: Sheet, k: u64, form: &mut [u8], list: &[u8]) -> u64 {
         b'o' => seen(changes::leave(sheet, 0), k),
         b's' => if sheet.ready() { 1 } else { 0 },
         b'h' => {
-            let total = listing::total(sheet);
+            let total = totals::total(sheet);
             total.value
         }
         b'l' => {

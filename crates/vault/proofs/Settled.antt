@@ -10,8 +10,10 @@ use Rattle.sheet.specs.declared.Answer.{Answer}
 use Rattle.sheet.proofs.Settled.{size-settled}
 use Rattle.pla.specs.Answers.{ReadsPla, WritesPla}
 use Rattle.pla.proofs.Settled.{reads-pla-settled, writes-pla-settled}
-use Rattle.listing.specs.Listing.{Listed, Totalled}
-use Rattle.listing.proofs.Settled.{list-settled, total-settled}
+use Rattle.listing.specs.Listing.{Listed}
+use Rattle.totals.specs.Totals.{Totalled}
+use Rattle.listing.proofs.Settled.{list-settled}
+use Rattle.totals.proofs.Settled.{total-settled}
 use Rattle.checking.specs.declared.Verdict.{Verdict}
 use Rattle.checking.proofs.Settled.{check-settled}
 use Rattle.lent.proofs.Settled.{stored-alone, changes-by-settled, tells-settled, lends-settled}

@@ -17,7 +17,7 @@ use Rattle.sheet.specs.declared.Value.{Value}
 use Rattle.sheet.proofs.Limits.{marks-most}
 use Rattle.changes.specs.Calls.{didOf}
 use Rattle.changes.specs.declared.Call.{Call}
-use Rattle.listing.specs.Listing.{totalOf, Totalled}
+use Rattle.totals.specs.Totals.{totalOf, Totalled}
 use Rattle.histories.specs.Histories.{numberOf, accepted, after, afterAll}
 use Rattle.histories.proofs.Kept.{did-kept}
 use Rattle.histories.proofs.Afresh.{total-afresh}

@@ -167,7 +167,7 @@ fn totals_to(y: Year, month: usize) -> [u64; 12]
         return closed;
     }
     let sheet = y.sheet;
-    let total = listing::total(sheet);
+    let total = totals::total(sheet);
     page::close_months(closed, last.month, month, total.value)
 }
 

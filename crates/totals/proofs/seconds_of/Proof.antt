@@ -13,10 +13,10 @@ use Rattle.profiles.specs.declared.Profile.{Profile}
 use Rattle.sheet.specs.Limits.{entries}
 use Rattle.sheet.specs.Record.{inClass, sheetWith}
 use Rattle.sheet.specs.Sound.{recordOf}
-use Rattle.listing.specs.Listing.{taken}
-use Rattle.listing.proofs.Filled.{taken-is}
-use Rattle.listing.proofs.seconds_of.Statement.{statement}
-use Rattle.listing.proofs.seconds_of.Tie as tie
+use Rattle.totals.specs.Totals.{taken}
+use Rattle.totals.proofs.Taken.{taken-is}
+use Rattle.totals.proofs.seconds_of.Statement.{statement}
+use Rattle.totals.proofs.seconds_of.Tie as tie
 
 small : (c : tie.After-single) → c .single .result < entries
 small c = omega (arith, c .single .ensures .1, pow-le-pow-right {n = 3} (omega arith) {i = c .before .before .before .before .args .m} {j = 5} (omega arith))

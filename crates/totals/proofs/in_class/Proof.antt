@@ -6,14 +6,14 @@ use native.Mathlib.Omega.{arith}
 use native.Mathlib.Numerals.{add-one}
 use native.Mathlib.Nat.{pow-le-pow-right}
 use borrow.Author.Needs.{needs}
-use Rattle.listing.specs.Listing.{taken}
+use Rattle.totals.specs.Totals.{taken}
 use Rattle.profiles.specs.declared.Profile.{Profile}
 use Rattle.sheet.specs.Record.{inClass, sheetWith}
 use Rattle.sheet.specs.Sound.{recordOf}
 use Rattle.tables.specs.Tables.{own}
 use Rattle.boxes.specs.Sums.{sum}
-use Rattle.listing.proofs.in_class.Statement.{statement}
-use Rattle.listing.proofs.in_class.Tie as tie
+use Rattle.totals.proofs.in_class.Statement.{statement}
+use Rattle.totals.proofs.in_class.Tie as tie
 
 abbrev upto : ℕ → Profile → (outside either held : List ℕ) → ℕ → ℕ
 upto m p outside either held n = sum n (taken (inClass (recordOf (sheetWith m p outside either held))) (own m held))

@@ -19,7 +19,7 @@ use Rattle.sheet.specs.Record.{Record, inClass, notOut}
 use Rattle.sheet.specs.Sound.{TimesSound, recordOf}
 use Rattle.sheet.specs.declared.Sheet.{Sheet}
 use Rattle.sheet.proofs.Told.{either-nothing}
-use Rattle.listing.specs.Listing.{totalOf}
+use Rattle.totals.specs.Totals.{totalOf}
 
 -- a combination of this standing that holds x, covered or not, adds what it adds to the total
 covered-adds : (s : Standing) (cov : Bool) (x : ℕ) → (isIn s ≡ true → cov ≡ true) → (cov ≡ true → not (isOut s) ≡ true) → (isEither s ≡ true → x ≡ 0)

@@ -5,8 +5,8 @@ use lib.ListN.{length}
 use borrow.Author.Needs.{needs}
 use Rattle.sheet.proofs.Limits.{marks-most}
 use Rattle.sheet.specs.Limits.{entries, mostMarks}
-use Rattle.listing.proofs.total_sound.Statement.{statement}
-use Rattle.listing.proofs.total_sound.Tie as tie
+use Rattle.totals.proofs.total_sound.Statement.{statement}
+use Rattle.totals.proofs.total_sound.Tie as tie
 
 long : (c : tie.Start) → (length (c .args .sheet .outside) ≡ entries) × (length (c .args .sheet .either) ≡ entries) × (length (c .args .sheet .held) ≡ entries)
 long c = (search needs, search needs, search needs)

@@ -6,10 +6,10 @@ use borrow.Author.Needs.{needs}
 use Rattle.ground.proofs.Cases.{denied}
 use Rattle.sheet.specs.Sound.{Ready}
 use Rattle.sheet.specs.Limits.{mostMarks}
-use Rattle.listing.specs.Listing.{Totalled}
-use Rattle.listing.specs.Listing.Totalled.{spoiled, told}
-use Rattle.listing.proofs.total.Statement.{statement}
-use Rattle.listing.proofs.total.Tie as tie
+use Rattle.totals.specs.Totals.{Totalled}
+use Rattle.totals.specs.Totals.Totalled.{spoiled, told}
+use Rattle.totals.proofs.total.Statement.{statement}
+use Rattle.totals.proofs.total.Tie as tie
 
 ready : (c : tie.Else1) → Ready mostMarks (c .before .before .args .sheet)
 ready c = c .before .ready .ensures .yes (not-false _ (c .if1 .left))

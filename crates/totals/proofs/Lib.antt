@@ -1,0 +1,4 @@
+pub mod Taken
+pub mod Settled
+pub mod Lines
+pub mod Agrees
