@@ -11,6 +11,7 @@ use listing;
 use machine;
 use print;
 use sheet::Sheet;
+use totals;
 
 // `class N` and `lines N`.
 fn put_heads(out: &mut [u8], at: usize, size: u64, count: u64) -> usize
