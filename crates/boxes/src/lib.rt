@@ -24,7 +24,7 @@ pub fn power3(m: usize) -> usize
 
 // A box taken apart, for tests: its free marks, and the marks that it wants on, which are its lowest combination. A number that is no box wants a mark
 // on that it has free, so that nothing agrees with it.
-#[derive(Drop)]
+#[derive(Clone, Copy)]
 pub struct Digits {
     pub free: usize,
     pub on: usize,

@@ -15,7 +15,7 @@ use tables;
 use tables::Shift;
 
 // A call that changes a sheet, with any numbers.
-#[derive(Drop)]
+#[derive(Clone, Copy)]
 pub enum Call {
     Change(Standing, usize),
     Receive(usize, u64),

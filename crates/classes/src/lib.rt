@@ -11,7 +11,7 @@ ghost use Rattle.classes.specs.declared.Standing.TheVariants.{Either};
 use profiles::Profile;
 
 // How a combination stands to the class. Lines must contain those that are in, may not contain those that are out, and may contain those that are either.
-#[derive(Drop)]
+#[derive(Clone, Copy)]
 pub enum Standing {
     In,
     Out,

@@ -16,7 +16,7 @@ use machine::Line;
 use sheet::{Answer, Sheet};
 
 // In front of line 1, behind it, or over.
-#[derive(Drop)]
+#[derive(Clone, Copy)]
 pub enum Stage {
     Opening,
     Going,
@@ -24,7 +24,7 @@ pub enum Stage {
 }
 
 // Where a session stands.
-#[derive(Drop)]
+#[derive(Clone, Copy)]
 pub struct Desk {
     pub stage: Stage,
     pub sheet: Sheet,

@@ -3,7 +3,7 @@ ghost use Rattle.std.specs.Prelude.{◌≡◌, ◌+◌, ◌<◌, ◌^◌};
 ghost use Rattle.machine.specs.Rows.{most_bytes};
 ghost use Rattle.machine.specs.AtHand.{empty, pushed, row_of, is_none, line_cut_off, cut_of, LineFits};
 
-#[derive(Drop)]
+#[derive(Clone, Copy)]
 pub struct Line {
     pub number: u64,
     pub text: [u8; Line::MOST],

@@ -13,7 +13,7 @@ use stored::Read;
 
 // The inputs, 0 before `.i`; whether `.o 1` has come; whether a `.p` line has, its number and its offset; how many cubes, and the set of their
 // combinations.
-#[derive(Drop)]
+#[derive(Clone, Copy)]
 pub struct Said {
     pub inputs: usize,
     pub output: bool,

@@ -3,7 +3,7 @@ ghost use Rattle.std.specs.Prelude.{◌≡◌, ◌≤◌};
 ghost use Rattle.profiles.specs.Profiles.{common, group_ok, may_follow, followed, profile_ok, one_on, breaks, settles, count_ok, profile_of, names_ok};
 
 // The groups of a sheet, each a number with a bit for each of its marks; a sheet may have none.
-#[derive(Drop)]
+#[derive(Clone, Copy)]
 pub enum Profile {
     None,
     One(usize),

@@ -10,14 +10,14 @@ use machine::Line;
 use year;
 use year::Year;
 
-#[derive(Drop)]
+#[derive(Clone, Copy)]
 pub enum Kind {
     Holdings,
     Months,
 }
 
 // Where a program stands. An enum cannot hold a sheet, so the states stand beside the kind, and those of other kinds stay as they began.
-#[derive(Drop)]
+#[derive(Clone, Copy)]
 pub struct Program {
     pub kind: Kind,
     pub desk: Desk,

@@ -8,7 +8,7 @@ use crate::program::{Kind, Program};
 use machine::Line;
 
 // The line at hand, and where the program stands.
-#[derive(Drop)]
+#[derive(Clone, Copy)]
 pub struct Session {
     pub line: Line,
     pub program: Program,

@@ -18,7 +18,7 @@ use classes::Standing;
 use profiles::Profile;
 use tables;
 
-#[derive(Drop)]
+#[derive(Clone, Copy)]
 pub struct Sheet {
     pub marks: usize,
     pub profile: Profile,

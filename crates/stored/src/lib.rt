@@ -30,14 +30,14 @@ impl Read {
 }
 
 // The layouts of a stored form: 01's, and today's, which has the either combinations behind the class and may end with a profile.
-#[derive(Drop)]
+#[derive(Clone, Copy)]
 pub enum Layout {
     First,
     Today,
 }
 
 // The sections of a form: the combinations in the class, those that are either, and those that hold seconds.
-#[derive(Drop)]
+#[derive(Clone, Copy)]
 pub enum Section {
     Class,
     Either,

@@ -9,7 +9,7 @@ ghost use Rattle.tables.specs.Thirds.{from, Added, sum_of, FewEach, Made};
 use boxes;
 
 // What a move does to a number that is kept.
-#[derive(Drop)]
+#[derive(Clone, Copy)]
 pub enum Shift {
     Stays,
     Up(u32),

@@ -24,7 +24,7 @@ use year_lines;
 use year_lines::{Named, Slip};
 
 // In front of line 1, in front of line 2, behind it, or over.
-#[derive(Drop)]
+#[derive(Clone, Copy)]
 pub enum Stage {
     Naming,
     Opening,
@@ -34,7 +34,7 @@ pub enum Stage {
 
 // Where a session stands: whether a dated line has come, the sheet as of the last accepted line, the last accepted date (before there is one, the first
 // of January), and the totals of the months before its month.
-#[derive(Drop)]
+#[derive(Clone, Copy)]
 pub struct Year {
     pub stage: Stage,
     pub dated: bool,
