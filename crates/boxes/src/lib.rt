@@ -1,4 +1,6 @@
 // Combinations and boxes as masks: a set of marks is a number with a bit for each mark.
+#![tactic(auto)]
+
 ghost use Rattle.std.specs.Prelude.{◌≡◌, ◌+◌, ◌*◌, ◌/◌, ◌%◌, ◌^◌, ◌<◌, ◌≤◌, length};
 ghost use Rattle.boxes.specs.Boxes.{contains, through, single};
 ghost use Rattle.boxes.specs.Parts.{masked, Apart, Doubles, Doubled, AllThrough};

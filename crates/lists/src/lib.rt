@@ -1,4 +1,6 @@
 // Lists of boxes: how many boxes a shortest one can have, and the comparison of two lent lists, where any bytes are taken as box numbers.
+#![tactic(auto)]
+
 ghost use Rattle.std.specs.Prelude.{◌≡◌, ◌≤◌};
 ghost use Rattle.ground.specs.Decides.{Decides};
 ghost use Rattle.lists.specs.Lists.{Before, most_lines};

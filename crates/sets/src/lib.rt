@@ -1,4 +1,6 @@
 // Sets of combinations as numbers, a bit for each combination: bit c is on exactly if the combination c is in the set.
+#![tactic(auto)]
+
 ghost use Rattle.sets.specs.Sets.{AllSets, AllSingles, Outs};
 
 // The set of each box, by its number. A box below 3^m has the same combinations over any number of marks from m on.

@@ -1,4 +1,6 @@
 // Tables of kept numbers, lent by their owner: changed at the boxes that contain one combination, tested, and worked out afresh.
+#![tactic(auto)]
+
 ghost use Rattle.std.specs.Prelude.{◌≡◌, ◌+◌, ◌*◌, ◌-◌, ◌^◌, ◌<◌, ◌≤◌, length};
 ghost use Rattle.ground.specs.Decides.{Decides};
 ghost use Rattle.boxes.specs.Boxes.{sum_in, all_free};
