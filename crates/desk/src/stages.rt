@@ -127,7 +127,7 @@ fn later_line(old: Sheet, line: Line, out: &mut [u8]) -> Stepped
 
 // The line at hand has ended.
 pub fn step(d: Desk, line: Line, out: &mut [u8]) -> Stepped
-    requires fact { (s : State) × In d s }
+    requires stands { (s : State) × In d s }
     requires line_fits { LineFits line }
     requires page_room_in_bounds { page_room ≤ length out.old }
     ensures { (s : State) → In d s → SteppedTo line.number s (row_of line) out.old result out.new }
@@ -143,7 +143,7 @@ pub fn step(d: Desk, line: Line, out: &mut [u8]) -> Stepped
 
 // The input is at its end: the result is printed.
 pub fn stop(d: Desk, out: &mut [u8], at: usize) -> usize
-    requires fact { (s : State) × In d s }
+    requires stands { (s : State) × In d s }
     requires page_room_in_bounds { at + page_room ≤ length out.old }
     ensures { (s : State) → In d s → StoppedBy holdings s out.old at result out.new }
 {

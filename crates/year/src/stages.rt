@@ -274,7 +274,7 @@ fn later_line(y: Year, line: Line, out: &mut [u8]) -> Stepped
 
 // The line at hand has ended.
 pub fn step(y: Year, line: Line, out: &mut [u8]) -> Stepped
-    requires fact { (s : State) × In y s }
+    requires stands { (s : State) × In y s }
     requires line_fits { LineFits line }
     requires page_room_in_bounds { page_room ≤ length out.old }
     ensures { (s : State) → In y s → SteppedTo line.number s (row_of line) out.old result out.new }
@@ -291,7 +291,7 @@ pub fn step(y: Year, line: Line, out: &mut [u8]) -> Stepped
 
 // The input is at its end: the rows, if there was a `marks`.
 pub fn stop(y: Year, out: &mut [u8], at: usize) -> usize
-    requires fact { (s : State) × In y s }
+    requires stands { (s : State) × In y s }
     requires page_room_in_bounds { at + page_room ≤ length out.old }
     ensures { (s : State) → In y s → StoppedBy months s out.old at result out.new }
 {
