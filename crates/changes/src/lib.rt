@@ -1,4 +1,6 @@
 // The calls that change a sheet. Every call takes any numbers and any sheet, spoiled ones included, and answers by a number of 01's table.
+#![tactic(auto)]
+
 ghost use Rattle.std.specs.Prelude.{◌≡◌};
 ghost use Rattle.classes.specs.declared.Standing.TheVariants.{In, Out, Either};
 ghost use Rattle.sheet.specs.Limits.{most_marks};

@@ -1,4 +1,6 @@
 // Carrier profiles: one or two groups of marks, of each of which a can has exactly one.
+#![tactic(auto)]
+
 ghost use Rattle.std.specs.Prelude.{◌≡◌, ◌≤◌};
 ghost use Rattle.profiles.specs.Profiles.{common, group_ok, may_follow, followed, profile_ok, one_on, breaks, settles, count_ok, profile_of, names_ok};
 

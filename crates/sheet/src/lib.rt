@@ -1,5 +1,7 @@
 // The sheet: marks and carrier profile; for each box an outside count, an either count and held seconds; the calls that open it, and
 // what reads its class. Every call takes any numbers and any sheet, spoiled ones included, and answers by a number of 01's table.
+#![tactic(auto)]
+
 ghost use Rattle.std.specs.Prelude.{◌≡◌, ◌≤◌, cond};
 ghost use Rattle.ground.specs.Decides.{Decides};
 ghost use Rattle.tables.specs.Tables.{entry, afresh};
@@ -80,10 +82,10 @@ impl Sheet {
 
     // The constants are the numbers of the definitions.
     pub fn limits()
-        ensures* do_value { do ⌜ (← (⟦Sheet::MOST_MARKS⟧).entry) ≡ most_marks ⌝ }
-        ensures* do_value_2 { do ⌜ (← (⟦Sheet::ENTRIES⟧).entry) ≡ entries ⌝ }
-        ensures* do_value_3 { do ⌜ (← (⟦Sheet::MOST_HELD⟧).entry) ≡ most_held ⌝ }
-        ensures* do_value_4 { do ⌜ (← (⟦Sheet::MOST_AMOUNT⟧).entry) ≡ most_amount ⌝ }
+        ensures most_marks { Sheet.MOST_MARKS ≡ most_marks }
+        ensures entries { Sheet.ENTRIES ≡ entries }
+        ensures most_held { Sheet.MOST_HELD ≡ most_held }
+        ensures most_amount { Sheet.MOST_AMOUNT ≡ most_amount }
     {}
 
     // The sheet worked out afresh from what each combination adds to the outside counts and to the either counts, and the seconds that it holds.
