@@ -1,4 +1,6 @@
 // What boxes cost by weights: a certificate of how few boxes a fitting list cannot have.
+#![tactic(auto)]
+
 ghost use Rattle.std.specs.Prelude.{◌≡◌, ◌^◌, ◌≤◌, ◌<◌};
 ghost use Rattle.sets.specs.Sets.{set_marks, has, value_at, Sets};
 ghost use Rattle.costs.specs.Costs.{Certified, weight};

@@ -1,4 +1,6 @@
 // The search for a C program, by itself: what bench/ times.
+#![tactic(auto)]
+
 ghost use Rattle.seek_c.specs.Told.{Told};
 
 // The first shortest list that covers `need` inside `room`, at the front of the area: the number of its boxes, and 1. 0 where marks are

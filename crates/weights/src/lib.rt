@@ -7,6 +7,8 @@
 //
 // No contract. Propose freely, check by proof: whoever uses the weights works out with whole numbers whether any box weighs too much, so
 // nothing is promised but that the calls are safe and end, whatever the tables hold and however the floats round.
+#![tactic(auto)]
+
 mod basis;
 mod climb;
 mod room;
