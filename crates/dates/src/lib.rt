@@ -1,4 +1,6 @@
 // Gregorian dates: which days there are, which comes first, and how a date is read.
+#![tactic(auto)]
+
 mod date;
 mod digits;
 mod reading;

@@ -83,5 +83,5 @@ pub onward_but : (M : Machine) (R : List ℕ → List ℕ → Type 0)
     → ((k : ℕ) (s t : M.State) (line other now : List ℕ) → R line other → M.step k s (whole line) t now → M.step k s (whole other) t now)
     → {k : ℕ} {s : M.State} {a b : List Row} {text : List ℕ} → SameBut R a b → Onward M k s a text → Onward M k s b text
 onward_but M R alike SameBut.none (stopped x) = stopped x
-onward_but M R alike (same q) (line x p) = line x (onward_but M R alike q p)
+onward_but M R alike {k = k} (same q) (line x p) = line x (onward_but M R alike {k = k + 1} q p)
 onward_but M R alike (but r q) (line x p) = line (alike _ _ _ _ _ _ r x) (onward_but M R alike q p)

@@ -1,4 +1,6 @@
 // The line machine: takes bytes in pieces of any size, cuts lines, counts them, and says what is refused. What a line does is its user's.
+#![tactic(auto)]
+
 mod line;
 mod refusals;
 

@@ -25,7 +25,7 @@ impl Line {
 
     // The constant is the number of the definitions.
     pub fn limits()
-        ensures* { do ⌜ (← (⟦Line::MOST⟧).entry) ≡ most_bytes ⌝ }
+        ensures { Line.MOST ≡ most_bytes }
     {}
 
     // A line of which nothing has come.

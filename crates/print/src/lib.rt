@@ -1,4 +1,6 @@
 // Numbers, running times and patterns, written into a lent area: each call lays its text at a place and answers the next place.
+#![tactic(auto)]
+
 ghost use Rattle.std.specs.Prelude.{◌≡◌, ◌+◌, ◌≤◌, ◌<◌, length};
 ghost use Rattle.print.specs.Texts.{decimal, clock, sign, pattern};
 ghost use Rattle.ground.specs.Areas.{Wrote};

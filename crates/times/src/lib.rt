@@ -1,5 +1,7 @@
 // Running times: `M:SS` in minutes, or `H:MM:SS` in hours. What is read is handed on to the part of the text behind it, each part with its own set
 // of readable texts and with the same promise: the value and its form, or the place of the fault.
+#![tactic(auto)]
+
 ghost use Rattle.std.specs.Prelude.{◌≡◌, ◌+◌, ◌-◌, ◌*◌, ◌^◌, ◌≤◌, ◌<◌};
 ghost use Rattle.ground.specs.Decides.{Decides};
 ghost use Rattle.times.specs.Texts.{Readable};
