@@ -1,4 +1,6 @@
 // The desk's lines: what the bytes of a line ask for. The reader takes the verb and hands on the part of the text behind it.
+#![tactic(auto)]
+
 ghost use Rattle.std.specs.Prelude.{◌≤◌};
 ghost use Rattle.machine.specs.AtHand.{row_of, LineFits};
 ghost use Rattle.lines.specs.Words.{Opens, Asked, RowOpens, RowAsks};

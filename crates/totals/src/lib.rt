@@ -1,4 +1,6 @@
 // The seconds held in a sheet's class.
+#![tactic(auto)]
+
 ghost use Rattle.std.specs.Prelude.{◌≡◌, ◌^◌, ◌<◌, ◌≤◌, length};
 ghost use Rattle.sheet.specs.Limits.{most_marks, entries};
 ghost use Rattle.profiles.specs.declared.Profile.{Profile};

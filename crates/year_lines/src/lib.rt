@@ -1,4 +1,6 @@
 // The lines of a year: line 1 names it, and behind `marks` a line is one of the desk's, or one of these with a date in front.
+#![tactic(auto)]
+
 ghost use Rattle.std.specs.Prelude.{◌≤◌};
 ghost use Rattle.machine.specs.AtHand.{row_of, LineFits};
 ghost use Rattle.year_lines.specs.Slips.{NamesYear, RowNames, Asked, RowAsks};
