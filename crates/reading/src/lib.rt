@@ -1,4 +1,6 @@
 // Reading a sheet's stored form, today's or 01's: any bytes, of any length.
+#![tactic(auto)]
+
 ghost use Rattle.std.specs.Prelude.{◌≤◌, length};
 ghost use Rattle.sheet.specs.Limits.{most_marks, entries};
 ghost use Rattle.stored.specs.Answers.{ReadsBy, Reads};

@@ -1,4 +1,6 @@
 // A section, whichever it is: a count, and as many combinations, each with the number behind it.
+#![tactic(auto)]
+
 ghost use Rattle.std.specs.Prelude.{◌≡◌, false, ◌≤◌, length};
 ghost use Rattle.sheet.specs.Limits.{most_marks};
 ghost use Rattle.sections.specs.Parts.{least, has_in, EntriesRead, SectionRead};

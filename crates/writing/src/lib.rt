@@ -1,4 +1,6 @@
 // Writing a sheet's stored form into a lent area.
+#![tactic(auto)]
+
 ghost use Rattle.std.specs.Prelude.{◌≡◌, ◌+◌, ◌^◌, ◌≤◌, ◌<◌, length};
 ghost use Rattle.ground.specs.Areas.{Wrote};
 ghost use Rattle.sheet.specs.Limits.{most_marks, entries};
