@@ -249,12 +249,12 @@ rest_got {most} {at = at} {q = q} profile r l up b g x =
       profile = tt;
       bytes = got.bytes;
     })
-rest_got {most} {q = q} (more s rest) r l up b g x =
+rest_got {most} {k = k} {q = q} (more s rest) r l up b g x =
     let at_it : Reached most (rank s) r = record { plain = g.plain; storable = g.storable; within = g.within; none = λ u h c. g.none u (omega arith) c } in
     let first = section_got s rest r l b at_it x in
     let i = first.entries in
     let v = i.value in
-    let others = rest_got rest v i.tail up.1 i.tail_bytes i.reached i.run in
+    let others = rest_got {k = suc (rank s)} rest v i.tail up.1 i.tail_bytes i.reached i.run in
     let kept = others.same s (misses s rest up.1 (omega arith)) in
     record {
       marks = others.marks ∙ i.only.marks;

@@ -70,7 +70,7 @@ marks_wrong true s e q = inr (ap code (sym q) ∙ e)
 marks_wrong false s e q = inl (ap code (sym q), refl)
 
 -- the two numbers, and the place of 1, whichever sections are due
-pub refusals : {rest : Rest} {most k p : ℕ} {t : List ℕ} → Run most (due (marks rest)) 0 t (refused k p) → ((k ≡ 1) × (p ≡ 0)) ⊎ (k ≡ 10)
+pub refusals : {rest : Rest} {most k : ℕ} {t : List ℕ} {p : ℕ} → Run most (due (marks rest)) 0 t (refused k p) → ((k ≡ 1) × (p ≡ 0)) ⊎ (k ≡ 10)
 unfolding judge
 refusals (early h) = inr refl
 refusals {rest} {most} (faulty h q) = marks_wrong (marks_ok most _) _ (code_rest rest _) q

@@ -1,4 +1,6 @@
 // The stored form of a sheet: what it is, and what its reader and its writer promise. The functions are those of `reading` and `writing`.
+#![tactic(auto)]
+
 ghost use Rattle.std.specs.Prelude.{◌≡◌, ◌≤◌};
 ghost use Rattle.stored.specs.Sections.{bytes_behind};
 ghost use Rattle.stored.specs.Parts.{Neither};
