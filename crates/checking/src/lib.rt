@@ -1,4 +1,6 @@
 // Whether a list that others drew fits the class of a sheet, and else its first fault. Any bytes are taken as box numbers, in any order and number.
+#![tactic(auto)]
+
 ghost use Rattle.std.specs.Prelude.{◌≡◌, ◌<◌, ◌≤◌, length, get_or};
 ghost use Rattle.sheet.specs.Limits.{most_marks};
 ghost use Rattle.sheet.specs.Sound.{ClassReady};

@@ -1,4 +1,6 @@
 // The list of a sheet's class.
+#![tactic(auto)]
+
 ghost use Rattle.std.specs.Prelude.{◌≡◌, ◌^◌, ◌<◌, ◌≤◌, length, ◌&&◌, eqb, ltb};
 ghost use Rattle.sheet.specs.Limits.{most_marks, entries};
 ghost use Rattle.sheet.specs.Sound.{ClassReady};

@@ -146,7 +146,7 @@ cubes_read {most} {size} {at} m c done (b ∷ l) some boxes =
     (drawn boxes.0 (two (pattern m b) (49 ∷ []) (omega (arith, pattern-length m b, some)) (omega arith) (high_pattern m b) high_one)) refl
     (subst (λ (x : List ℕ). Run most size (record { inputs = m; output = true; count = c; cubes = done ++ b ∷ [] }) (at + length (pattern m b ++ 32 ∷ 49 ∷ []) + 1)
     (lines_of (cube_lines m l ++ ascii ".e\n")) (comes_to size (record { inputs = m; output = true; count = c; cubes = x })))
-    (append_assoc done (b ∷ []) l) (cubes_read m c (done ++ b ∷ []) l some boxes.1)))
+    (append_assoc done (b ∷ []) l) (cubes_read {at = at + length (pattern m b ++ 32 ∷ 49 ∷ []) + 1} m c (done ++ b ∷ []) l some boxes.1)))
 
 -- `.i`, `.o` and `.p` in front of them
 text_lines : (m k : ℕ) (c : List ℕ)

@@ -1,4 +1,6 @@
 // The lines of a PLA text: what the line at the front of some bytes says, and how long it is.
+#![tactic(auto)]
+
 ghost use Rattle.std.specs.Prelude.{◌≡◌, ◌≤◌, length};
 ghost use Rattle.sheet.specs.Limits.{most_marks};
 ghost use Rattle.pla_lines.specs.Lines.{first_line, words_in};

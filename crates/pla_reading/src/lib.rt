@@ -1,4 +1,6 @@
 // Reading a PLA text of one output: any bytes, of any length. Each line is heard, and judged by what the lines before it have said.
+#![tactic(auto)]
+
 ghost use Rattle.sheet.specs.Limits.{most_marks, entries};
 ghost use Rattle.pla.specs.Answers.{ReadsPla};
 ghost use Rattle.sets.specs.Sets.{AllSets};

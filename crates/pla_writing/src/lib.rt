@@ -1,4 +1,6 @@
 // Writing the shortest list of a sheet's class as a PLA text into a lent area.
+#![tactic(auto)]
+
 ghost use Rattle.std.specs.Prelude.{◌+◌, ◌≤◌, length};
 ghost use Rattle.ground.specs.Areas.{Wrote};
 ghost use Rattle.lists.specs.Lists.{most_lines};
