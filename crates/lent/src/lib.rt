@@ -1,4 +1,6 @@
 // A sheet that is lent in its stored form: read, then asked or changed, and what is left written. What the entries for C are made of.
+#![tactic(auto)]
+
 ghost use Rattle.std.specs.Prelude.{◌≡◌};
 ghost use Rattle.tables.specs.Tables.{entry};
 ghost use Rattle.sheet.specs.Limits.{most_marks};

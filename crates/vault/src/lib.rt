@@ -1,4 +1,6 @@
 // The library for C programs: include/vault.h says what each entry does. An entry reads the lent sheet, makes one call on it, and writes what is left.
+#![tactic(auto)]
+
 ghost use Rattle.classes.specs.declared.Standing.TheVariants.{In, Out, Either};
 ghost use Rattle.sheet.specs.Limits.{most_marks, entries};
 ghost use Rattle.sheet.specs.Record.{outside_counts, either_counts, held_seconds};

@@ -1,0 +1,14 @@
+-- What opening under a profile gives is sound, and is written.
+use mathlib.Core.Path.{sym, subst}
+use Rattle.sheet.specs.Limits.{most_marks}
+use Rattle.sheet.specs.Sound.{Ready}
+use Rattle.sheet.specs.declared.Answer.{Answer}
+use Rattle.sheet.proofs.Opened.{open_under_ready}
+use Rattle.lent.proofs.Replies.{put_as}
+use Rattle.vault.proofs.vault_open_profile.Goals as goal
+
+pub put-requires : goal.put-requires
+put-requires c = subst (λ (a : Answer). Ready most_marks a.sheet) (sym c.open_under.ensures) (open_under_ready c.args.marks c.args.groups.now)
+
+pub returns : goal.returns
+returns c = put_as _ c.open_under.ensures c.put.ensures
