@@ -1,4 +1,6 @@
 // The desk: what the lines of a session lead to and print, from marks to the result.
+#![tactic(auto)]
+
 mod page;
 mod stages;
 

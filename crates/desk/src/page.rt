@@ -9,7 +9,6 @@ ghost use Rattle.desk.specs.Parts.{OfRecord, SheetOfRecord, Printed, HaveEntries
 
 use listing;
 use machine;
-use print;
 use sheet::Sheet;
 use totals;
 

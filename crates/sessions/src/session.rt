@@ -28,7 +28,7 @@ impl Session {
 
     // The constant is the number of the definitions.
     pub fn limits()
-        ensures* { do ⌜ (← (⟦Session::ROOM⟧).entry) ≡ room ⌝ }
+        ensures { Session.ROOM ≡ room }
     {}
 
     // A session in front of line 1.

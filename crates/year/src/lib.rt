@@ -1,4 +1,6 @@
 // A year on one page: the step of `months` from line to line, and its twelve rows.
+#![tactic(auto)]
+
 mod page;
 mod stages;
 

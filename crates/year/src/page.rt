@@ -6,7 +6,6 @@ ghost use Rattle.year.specs.Parts.{closed_with, month_in, row_room};
 
 use dates;
 use ground;
-use print;
 
 // The months from the first of these on have this total, up to the second, which does not.
 pub fn close_months(totals: [u64; 12], from: usize, to: usize, total: u64) -> [u64; 12]
