@@ -1,4 +1,4 @@
-use Prim.Native.Nat.{ℕ, ◌+◌, ◌^◌, ◌<◌}
+use Prim.Native.Nat.{ℕ, ◌^◌, ◌<◌}
 use mathlib.Core.Path.{◌≡◌, sym, ◌∙◌, ap, subst}
 use native.Mathlib.Omega.{arith}
 use native.Mathlib.Nat.{pow-le-pow_right}
@@ -10,7 +10,7 @@ use Rattle.sheet.specs.Limits.{entries}
 use Rattle.listing.proofs.Filled.{inside, Filled, filled_none, filled_in, filled_out, filled-all}
 use Rattle.tables.specs.Tables.{entry, own}
 use Rattle.listing.proofs.zeros.Goals as goal
-use Rattle.listing.proofs.zeros.Goals.{After-shared_slice_known-in-loop-c-1, After-single-b, In-loop-c, else-t-b-eq0, then-t-b-eq0}
+use Rattle.listing.proofs.zeros.Goals.{After-shared_slice_known-in-loop-c-1, After-single-b, In-loop-c}
 
 few : (c : In-loop-c) → c.loop-c.c < 32
 few c = omega (arith, pow-le-pow_right {n = 2} (omega arith) {i = c.args.m} {j = 5} (omega arith))
@@ -41,12 +41,11 @@ pub loop-c-preserved : goal.loop-c-preserved
 loop-c-preserved c =
     let l = c.loop-c in
     let a = c.args in
-    let here = own_is (goal.at.loop-c-preserved c).After-shared_slice_known-in-loop-c-1 in (
-      omega arith,
-      l.invariant.1,
-      (elim c.if-t-b-eq0.branch [ then-t-b-eq0 w ↦ let put = ap (bit_or l.set) (shl_exact 1 l.c 32 (lit< tt) (omega (arith, few (goal.at.loop-c-preserved c).In-loop-c))) ∙ or_shifted_r 1 l.c l.set l.invariant.2.small in
-          subst (Filled (inside a.m a.t.now) (l.c + 1)) (sym (w.set-is ∙ put)) (filled_in l.invariant.2 (ap (λ (x : ℕ). eqb x 0) (sym here) ∙ eq-eqb _ 0 (omega arith))) | else-t-b-eq0 w ↦ subst (Filled (inside a.m a.t.now) (l.c + 1)) (sym w.set-is) (filled_out l.invariant.2 (ap (λ (x : ℕ). eqb x 0) (sym here) ∙ ne_eqb _ 0 (omega arith))) ]),
-    )
+    let here = own_is (goal.at.loop-c-preserved c).After-shared_slice_known-in-loop-c-1 in
+    let put = ap (bit_or l.set) (shl_exact 1 l.c 32 (lit< tt) (omega (arith, few (goal.at.loop-c-preserved c).In-loop-c))) ∙ or_shifted_r 1 l.c l.set l.invariant.2.small in
+    let zero = λ (h : entry a.t.now c.single-b.result ≡ 0). filled_in l.invariant.2 (ap (λ (x : ℕ). eqb x 0) (sym here) ∙ eq-eqb _ 0 h) in
+    let more = λ (h : entry a.t.now c.single-b.result ≡ 0 → ⊥). filled_out l.invariant.2 (ap (λ (x : ℕ). eqb x 0) (sym here) ∙ ne_eqb _ 0 h) in
+    (omega arith, l.invariant.1, grind (arith, put, zero, more))
 
 pub returns : goal.returns
 returns c =

@@ -54,7 +54,6 @@ bounds-held-at c = omega (arith, small (goal.at.bounds-held-at c).After-single-a
 
 pub returns : goal.returns
 returns c =
-    (
-      λ p. c.wide.ensures.0 ∙ sym (adds (goal.at.returns c).After-single-at p ∙ rw (eq-eqb _ 0 c.if-outside-at-ne0.false, eq-eqb _ 0 c.if-either-at-ne0.false)),
-      c.wide.ensures.1,
-    )
+    let out : entry c.args.outside.now c.single-at.result ≡ 0 = omega arith in
+    let either : entry c.args.either.now c.single-at.result ≡ 0 = omega arith in
+    (λ p. c.wide.ensures.0 ∙ sym (adds (goal.at.returns c).After-single-at p ∙ rw (eq-eqb _ 0 out, eq-eqb _ 0 either)), c.wide.ensures.1)
