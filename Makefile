@@ -2,12 +2,12 @@
 # make sample     each desk program on a sample session
 # make test       the tests outside the proofs (CALLS=400000 random calls from SEED=1)
 # make check      everything: the gate proves all from nothing, then the tests run on an archive made of what was just proved
-# make bench      the library's times beside plain C's and glpk's (MODULE=1: of its module compiled for the host, as is done on other processors)
-# make count      what single jobs inside the library cost, in instructions (where valgrind is installed) and in time; x86-64 only
+# make bench      the library's times beside plain C's and glpk's (MODULE=1: of its module, compiled once more by the kit's clang with -O3)
+# make count      what single jobs inside the library cost, in instructions (where valgrind is installed) and in time
 # make sanitize   the library and the C programs of tests/ and examples/ under AddressSanitizer, UBSan and valgrind (see tests/sanitize)
 # make install    library, headers, programs and manual pages, to PREFIX=/usr/local (DESTDIR=.. in front of it)
 # make uninstall  takes away what install put there
-# make clean      removes target/, where all that is built lies, the proofs' results too
+# make clean      removes target/, where all that is built lies, and crates/*/out, what rt keeps of its proofs
 # make help       these lines
 PREFIX ?= /usr/local
 CALLS ?= 400000
@@ -24,22 +24,26 @@ installed := include/vault.h include/vault_util.h lib/libvault.a lib/pkgconfig/v
 
 all: $(library) $(programs)
 
-# rt proves what changed since it was last proved, and builds only what it proved. After the gate nothing has changed: the layers below are
-# taken as they are, and `vault` alone, which is thin, is checked again, since rt makes an archive in the run that proves it.
+# The crate of an archive: a library of the same name stands below vault's.
+crate = $(patsubst vault,vault_c,$(1))
+
+# rt proves what changed since it was last proved, and builds only what it proved, in the crate's folder. After the gate nothing has changed: the layers
+# below are taken as they are, and the crate alone, which is thin, is checked again, since rt makes an archive in the run that proves it.
 target/staticlib/lib%.a: $(sources)
-	rt staticlib $*
+	cd crates/$(call crate,$*) && rt lib
+	install -D -m 644 crates/$(call crate,$*)/out/lib$(call crate,$*).a $@
 
-# the module of which rt makes the archive, compiled for the host: as it is, and with AddressSanitizer's checks
+# the module of which rt makes the archive, compiled once more: as it is, and with AddressSanitizer's checks
 target/host/%.o target/asan/%.o: $(sources)
-	tools/module $*
+	tools/module $(call crate,$*) $*
 
-# What a program of the host links for a crate. The archive is for x86-64.
-native = $(if $(filter x86_64,$(MODULE)$(shell uname -m)),target/staticlib/lib$(1).a,target/host/$(1).o)
+# What a program links for a crate.
+native = $(if $(MODULE),target/host/$(1).o,target/staticlib/lib$(1).a)
 
-# rt leaves a program as it is if nothing in it changed: touch says that it is not older than its sources.
+# rt builds a program only to run it, so it runs on an empty input. The gate's own programs are taken by tests/gate.
 $(programs) target/bin/rounds: target/bin/%: $(sources)
-	rt check $*
-	@touch $@
+	cd crates/$* && rt run </dev/null
+	install -D crates/$*/out/$* $@
 
 sample: $(programs)
 	@for name in holdings months; do echo "$$name:" && tools/x86 run target/bin/$$name <crates/$$name/stdin || exit; done
@@ -75,7 +79,7 @@ uninstall:
 	rm -f $(addprefix $(place)/,$(installed))
 
 clean:
-	rm -rf target
+	rm -rf target crates/*/out
 
 help:
 	@sed -n 's/^# \(make .*\)/\1/p' Makefile

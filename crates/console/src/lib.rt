@@ -1,18 +1,24 @@
-// A program at its standard input and output: feeds a session with what is read, and writes at once what it says.
-ghost use Rattle.std.specs.Prelude.{◌≡◌, false, ◌+◌, ◌≤◌, ◌<◌, ◌^◌, length};
+// A program at its input and output: feeds a session with what is read, and writes at once what it says.
+#![tactic(auto)]
+
+ghost use Rattle.std.specs.Prelude.{◌≡◌, ◌+◌, ◌≤◌, ◌<◌, ◌^◌, length, IfOk, OnOk, IfSome};
+ghost use Rattle.std.specs.Io.KnownBytes.{Appends};
 ghost use Rattle.machine.specs.Pieces.{Position};
 ghost use Rattle.sessions.specs.declared.program.Kind.{Kind};
 ghost use Rattle.sessions.specs.Programs.{machine_of};
 ghost use Rattle.sessions.specs.Sessions.{room, At, Stands, Took};
 
-use libc::{STDERR_FILENO, STDIN_FILENO, STDOUT_FILENO};
 use sessions::{Kind, Session};
+use std::io::{Read, Write};
+use thiserror::Error;
 
-// The session behind what was read, and whether the program stops.
-#[derive(Drop)]
-struct Served {
-    session: Session,
-    stop: bool,
+// Why a program ended before its input did.
+#[derive(Debug, Drop, Error)]
+pub enum Failed {
+    #[error("the input cannot be read")]
+    Input,
+    #[error("the output cannot be written")]
+    Output,
 }
 
 // An output area. Made in a function of its own, so that no proof meets its zeros.
@@ -22,31 +28,18 @@ fn room() -> [u8; Session::ROOM]
     [0u8; Session::ROOM]
 }
 
-// Says on standard error what cannot be done, behind the program's name.
-fn complain(s: Session, text: &[u8]) {
-    let program = s.program;
-    let kind = program.kind;
-    match kind {
-        Kind::Holdings => io::write_all(STDERR_FILENO, b"holdings: "),
-        Kind::Months => io::write_all(STDERR_FILENO, b"months: "),
-    };
-    io::write_all(STDERR_FILENO, text);
+// Writes a text; where that fails the program ends by it, so that no result is lost in silence.
+fn send<W: Write>(output: &mut W, text: &[u8]) -> Result<(), Failed>
+    ensures { OnOk result (Appends (W.contents output.old) (W.contents output.new) text.now) }
+{
+    output.write_all(text).map_err(|_| Failed::Output)
 }
 
-// Writes a text to standard output; where that fails it is said on standard error, so that no result is lost in silence.
-fn send(s: Session, text: &[u8]) -> bool {
-    if io::write_all(STDOUT_FILENO, text) {
-        return true;
-    }
-    complain(s, b"the output cannot be written\n");
-    false
-}
-
-// One piece of input: what a line says is written before the next line is looked at.
-fn serve(s: Session, piece: &[u8]) -> Served
+// One piece of input: what a line says is written before the next line is looked at. Gives the session behind it, or nothing where the program stops.
+fn serve<W: Write>(s: Session, piece: &[u8], output: &mut W) -> Result<Option<Session>, Failed>
     requires stands { Stands s }
     requires piece_bound { s.line.number + length piece.now < 2 ^ 63 }
-    ensures { result.stop ≡ false → (k : Kind) (p : Position (machine_of k)) → At k s p → Took k p piece.now result.session }
+    ensures { IfOk result (λ r. IfSome r (λ after. (k : Kind) (p : Position (machine_of k)) → At k s p → Took k p piece.now after)) }
 {
     let mut session = s;
     let mut out = room();
@@ -54,76 +47,58 @@ fn serve(s: Session, piece: &[u8]) -> Served
     while at < piece.len() {
         let fed = sessions::feed(session, &piece[at..], &mut out);
         let n = fed.wrote;
-        let after = fed.session;
-        session = after;
-        if !send(session, &out[..n]) {
-            return Served {
-                session,
-                stop: true,
-            };
-        }
+        session = fed.session;
+        send(output, &out[..n])?;
         if session.is_over() {
-            return Served {
-                session,
-                stop: true,
-            };
+            return Ok(None);
         }
         at += fed.used;
     }
-    Served {
-        session,
-        stop: false,
-    }
+    Ok(Some(session))
 }
 
 // The input is at its end.
-fn close(s: Session)
+fn close<W: Write>(s: Session, output: &mut W) -> Result<(), Failed>
     requires stands { Stands s }
     requires number_bound { s.line.number + 1 < 2 ^ 63 }
 {
     let mut out = room();
     let n = sessions::finish(s, &mut out);
-    send(s, &out[..n]);
+    send(output, &out[..n])
 }
 
-// One read. An error of reading ends the program, and is said on standard error.
-fn turn(s: Session) -> Served
+// One read. An error of reading ends the program.
+fn turn<R: Read, W: Write>(
+    s: Session,
+    input: &mut R,
+    output: &mut W,
+) -> Result<Option<Session>, Failed>
     requires stands { Stands s }
     requires number_bound { s.line.number + 4096 < 2 ^ 63 }
-    ensures { result.stop ≡ false → Stands result.session × (result.session.line.number ≤ s.line.number + 4096) }
+    ensures { IfOk result (λ r. IfSome r (λ after. Stands after × (after.line.number ≤ s.line.number + 4096))) }
 {
-    let mut buf = io::buffer();
-    let got = libc::read(STDIN_FILENO, &mut buf);
-    if got < 0 {
-        complain(s, b"the input cannot be read\n");
-        return Served {
-            session: s,
-            stop: true,
-        };
+    let mut buf = [0u8; 4096];
+    match input.read(&mut buf) {
+        Ok(0) => {
+            close(s, output)?;
+            Ok(None)
+        }
+        Ok(n) => serve(s, &buf[..n], output),
+        Err(_) => Err(Failed::Input),
     }
-    let n = io::count(got, &buf);
-    if n == 0 {
-        close(s);
-        return Served {
-            session: s,
-            stop: true,
-        };
-    }
-    serve(s, &buf[..n])
 }
 
 // A program of this kind, from the first line to the end. A proved loop has to end, and nothing says that the input does: the turns are counted down, from
 // a number that no run uses up.
-pub fn run(kind: Kind) {
+pub fn run<R: Read, W: Write>(kind: Kind, input: &mut R, output: &mut W) -> Result<(), Failed> {
     let mut session = Session::new(kind);
     let mut turns = 1_000_000_000_000_000u64;
     while turns > 0 {
-        let t = turn(session);
-        if t.stop {
-            return;
-        }
-        let after = t.session;
+        let Some(after) = turn(session, input, output)? else {
+            return Ok(());
+        };
         session = after;
         turns -= 1;
     }
+    Ok(())
 }

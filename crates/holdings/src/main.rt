@@ -1,6 +1,15 @@
 // The desk program.
-use sessions::Kind;
+#![tactic(auto)]
 
-fn main() {
-    console::run(Kind::Holdings);
+use sessions::Kind;
+use std::process::ExitCode;
+
+fn main(rt: HostRuntime) -> ExitCode {
+    match console::run(Kind::Holdings, &mut rt.stdin(), &mut rt.stdout()) {
+        Ok(()) => ExitCode::SUCCESS,
+        Err(e) => {
+            let _ = eprintln!(rt; "holdings: {e}");
+            ExitCode::FAILURE
+        }
+    }
 }

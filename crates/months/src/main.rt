@@ -1,6 +1,15 @@
 // The year program.
-use sessions::Kind;
+#![tactic(auto)]
 
-fn main() {
-    console::run(Kind::Months);
+use sessions::Kind;
+use std::process::ExitCode;
+
+fn main(rt: HostRuntime) -> ExitCode {
+    match console::run(Kind::Months, &mut rt.stdin(), &mut rt.stdout()) {
+        Ok(()) => ExitCode::SUCCESS,
+        Err(e) => {
+            let _ = eprintln!(rt; "months: {e}");
+            ExitCode::FAILURE
+        }
+    }
 }

@@ -1,9 +1,12 @@
 // Does one job of the library so many times, to be counted and timed: bench/count writes the job's letter and the number, as `s1000`, to its standard
 // input. Every other turn has another sheet, so that nothing can be worked out once for all turns. What they told is xored and printed.
-ghost use Rattle.std.specs.Prelude.{◌≡◌, length};
+#![tactic(auto)]
 
-use libc::{STDIN_FILENO, STDOUT_FILENO};
+ghost use Rattle.std.specs.Prelude.{◌≡◌, ◌≤◌, length, IfOk};
+
 use sheet::{Answer, Sheet};
+use std::io;
+use std::io::Read;
 
 // The class of the sheets, a bit for each combination.
 const CLASS: u32 = 0x90C2_35AF;
@@ -159,11 +162,27 @@ fn number(text: &[u8]) -> u64 {
     n
 }
 
-fn main() {
-    let mut buf = io::buffer();
-    let n = io::read_full(STDIN_FILENO, &mut buf);
-    if 0 < n {
-        io::print_decimal(STDOUT_FILENO, run(buf[0], number(&buf[..n])));
-        io::write_all(STDOUT_FILENO, b"\n");
+// Reads until the text is full or the input ends, and gives how many bytes came.
+fn filled<R: Read>(input: &mut R, text: &mut [u8]) -> io::Result<usize>
+    ensures { IfOk result (λ n. n ≤ length text.new) }
+{
+    let mut n: usize = 0;
+    while n < text.len() {
+        let got = input.read(&mut text[n..])?;
+        if got == 0 {
+            return Ok(n);
+        }
+        n += got;
     }
+    Ok(n)
+}
+
+fn main(rt: HostRuntime) -> io::Result<()> {
+    let mut text = [0u8; 4096];
+    let n = filled(&mut rt.stdin(), &mut text)?;
+    if 0 < n {
+        let told = run(text[0], number(&text[..n]));
+        println!(rt; "{told}")?;
+    }
+    Ok(())
 }

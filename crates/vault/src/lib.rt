@@ -1,4 +1,4 @@
-// The library for C programs: include/vault.h says what each entry does. An entry reads the lent sheet, makes one call on it, and writes what is left.
+// What each entry for C does, as a call of this library: it reads the lent sheet, makes one call on it, and writes what is left.
 #![tactic(auto)]
 
 ghost use Rattle.classes.specs.declared.Standing.TheVariants.{In, Out, Either};
@@ -23,32 +23,28 @@ use sheet::{Sheet, Value};
 use times::Reading;
 
 // A sheet of so many marks.
-#[unsafe(no_mangle)]
-pub extern "C" fn vault_open(marks: u64, out: &mut [u8]) -> Reply
+pub fn vault_open(marks: u64, out: &mut [u8]) -> Reply
     ensures { Put (open_of most_marks entries marks) out.old result out.new }
 {
     lent::put(Sheet::open(marks as usize), out)
 }
 
 // A sheet of so many marks under a carrier profile, a byte for each of its groups.
-#[unsafe(no_mangle)]
-pub extern "C" fn vault_open_profile(marks: u64, groups: &[u8], out: &mut [u8]) -> Reply
+pub fn vault_open_profile(marks: u64, groups: &[u8], out: &mut [u8]) -> Reply
     ensures { Put (open_under_of most_marks entries marks groups.now) out.old result out.new }
 {
     lent::put(Sheet::open_under(marks as usize, groups), out)
 }
 
 // Into the class.
-#[unsafe(no_mangle)]
-pub extern "C" fn vault_enter(sheet: &[u8], combination: u64, out: &mut [u8]) -> Reply
+pub fn vault_enter(sheet: &[u8], combination: u64, out: &mut [u8]) -> Reply
     ensures { Changes (λ s. did_of most_marks s (Change In combination)) sheet.now out.old result out.new }
 {
     lent::change(sheet, Call::Change(Standing::In, combination as usize), out)
 }
 
 // Out of the class.
-#[unsafe(no_mangle)]
-pub extern "C" fn vault_leave(sheet: &[u8], combination: u64, out: &mut [u8]) -> Reply
+pub fn vault_leave(sheet: &[u8], combination: u64, out: &mut [u8]) -> Reply
     ensures { Changes (λ s. did_of most_marks s (Change Out combination)) sheet.now out.old result out.new }
 {
     lent::change(
@@ -59,8 +55,7 @@ pub extern "C" fn vault_leave(sheet: &[u8], combination: u64, out: &mut [u8]) ->
 }
 
 // Neither in the class nor out of it: no can could have the combination.
-#[unsafe(no_mangle)]
-pub extern "C" fn vault_make_either(sheet: &[u8], combination: u64, out: &mut [u8]) -> Reply
+pub fn vault_make_either(sheet: &[u8], combination: u64, out: &mut [u8]) -> Reply
     ensures { Changes (λ s. did_of most_marks s (Change Either combination)) sheet.now out.old result out.new }
 {
     lent::change(
@@ -71,114 +66,91 @@ pub extern "C" fn vault_make_either(sheet: &[u8], combination: u64, out: &mut [u
 }
 
 // A receipt.
-#[unsafe(no_mangle)]
-pub extern "C" fn vault_receive(
-    sheet: &[u8],
-    combination: u64,
-    seconds: u64,
-    out: &mut [u8],
-) -> Reply
+pub fn vault_receive(sheet: &[u8], combination: u64, seconds: u64, out: &mut [u8]) -> Reply
     ensures { Changes (λ s. did_of most_marks s (Receive combination seconds)) sheet.now out.old result out.new }
 {
     lent::change(sheet, Call::Receive(combination as usize, seconds), out)
 }
 
 // A withdrawal.
-#[unsafe(no_mangle)]
-pub extern "C" fn vault_withdraw(
-    sheet: &[u8],
-    combination: u64,
-    seconds: u64,
-    out: &mut [u8],
-) -> Reply
+pub fn vault_withdraw(sheet: &[u8], combination: u64, seconds: u64, out: &mut [u8]) -> Reply
     ensures { Changes (λ s. did_of most_marks s (Withdraw combination seconds)) sheet.now out.old result out.new }
 {
     lent::change(sheet, Call::Withdraw(combination as usize, seconds), out)
 }
 
 // What was read, written again.
-#[unsafe(no_mangle)]
-pub extern "C" fn vault_copy(sheet: &[u8], out: &mut [u8]) -> Reply
+pub fn vault_copy(sheet: &[u8], out: &mut [u8]) -> Reply
     ensures { Changes same sheet.now out.old result out.new }
 {
     lent::rewritten(reading::read(sheet), out)
 }
 
 // What was read of 01's form, written in today's.
-#[unsafe(no_mangle)]
-pub extern "C" fn vault_from_form1(old: &[u8], out: &mut [u8]) -> Reply
+pub fn vault_from_form1(old: &[u8], out: &mut [u8]) -> Reply
     ensures { ChangesBy (ReadsBy First most_marks entries old.now) same out.old result out.new }
 {
     lent::rewritten(reading::read_first(old), out)
 }
 
 // What a PLA text draws, written in its stored form.
-#[unsafe(no_mangle)]
-pub extern "C" fn vault_read_pla(text: &[u8], out: &mut [u8]) -> Reply
+pub fn vault_read_pla(text: &[u8], out: &mut [u8]) -> Reply
     ensures { ChangesBy (ReadsPla most_marks entries text.now) same out.old result out.new }
 {
     lent::rewritten(pla_reading::read(text), out)
 }
 
 // The shortest list of the class.
-#[unsafe(no_mangle)]
-pub extern "C" fn vault_list(sheet: &[u8], area: &mut [u8]) -> Reply
+pub fn vault_list(sheet: &[u8], area: &mut [u8]) -> Reply
     ensures { Lends (Listed most_marks) sheet.now area.old result area.new }
 {
     lent::lend(sheet, Wanted::Lines, area)
 }
 
 // The shortest list of the class, as a PLA text.
-#[unsafe(no_mangle)]
-pub extern "C" fn vault_write_pla(sheet: &[u8], out: &mut [u8]) -> Reply
+pub fn vault_write_pla(sheet: &[u8], out: &mut [u8]) -> Reply
     ensures { Lends (WritesPla most_marks) sheet.now out.old result out.new }
 {
     lent::lend(sheet, Wanted::Pla, out)
 }
 
 // How many combinations are in the class.
-#[unsafe(no_mangle)]
-pub extern "C" fn vault_class_size(sheet: &[u8]) -> Reply
+pub fn vault_class_size(sheet: &[u8]) -> Reply
     ensures { Tells (ClassSize most_marks) sheet.now result }
 {
     lent::tell(sheet, Question::Size)
 }
 
 // The seconds held in the class.
-#[unsafe(no_mangle)]
-pub extern "C" fn vault_total(sheet: &[u8]) -> Reply
+pub fn vault_total(sheet: &[u8]) -> Reply
     ensures { Tells (Totalled most_marks) sheet.now result }
 {
     lent::tell(sheet, Question::Total)
 }
 
 // The outside count of a line.
-#[unsafe(no_mangle)]
-pub extern "C" fn vault_outside(sheet: &[u8], line: u64) -> Reply
+pub fn vault_outside(sheet: &[u8], line: u64) -> Reply
     ensures { Tells (KeptAt outside_counts line) sheet.now result }
 {
     lent::tell(sheet, Question::Outside(line))
 }
 
 // The either count of a line.
-#[unsafe(no_mangle)]
-pub extern "C" fn vault_either(sheet: &[u8], line: u64) -> Reply
+pub fn vault_either(sheet: &[u8], line: u64) -> Reply
     ensures { Tells (KeptAt either_counts line) sheet.now result }
 {
     lent::tell(sheet, Question::Either(line))
 }
 
 // The held seconds of a line.
-#[unsafe(no_mangle)]
-pub extern "C" fn vault_held(sheet: &[u8], line: u64) -> Reply
+pub fn vault_held(sheet: &[u8], line: u64) -> Reply
     ensures { Tells (KeptAt held_seconds line) sheet.now result }
 {
     lent::tell(sheet, Question::Held(line))
 }
 
 // Which of two lent lists is before the other: 0 the first, also if they are equal, 1 the second.
-#[unsafe(no_mangle)]
-pub extern "C" fn vault_before(first: &[u8], second: &[u8]) -> Reply
+pub fn vault_before(first: &[u8], second: &[u8]) -> Reply
     ensures { Compared first.now second.now result }
 {
     if lists::is_before(second, first) {
@@ -194,16 +166,14 @@ pub extern "C" fn vault_before(first: &[u8], second: &[u8]) -> Reply
 }
 
 // Whether a lent list fits the class, and else its first fault.
-#[unsafe(no_mangle)]
-pub extern "C" fn vault_check_list(sheet: &[u8], list: &[u8]) -> Verdict
+pub fn vault_check_list(sheet: &[u8], list: &[u8]) -> Verdict
     ensures { Judges sheet.now list.now result }
 {
     lent::judge(sheet, list)
 }
 
 // A running time, with its form.
-#[unsafe(no_mangle)]
-pub extern "C" fn vault_read_time(text: &[u8]) -> Reading
+pub fn vault_read_time(text: &[u8]) -> Reading
     ensures { Answered text.now result }
 {
     times::answer(text)
