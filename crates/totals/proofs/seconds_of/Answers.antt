@@ -53,8 +53,7 @@ pub bounds-held-at : goal.bounds-held-at
 bounds-held-at c = omega (arith, small (goal.at.bounds-held-at c).After-single-at)
 
 pub returns : goal.returns
-returns c =
-    (
-      λ p. c.wide.ensures.0 ∙ sym (adds (goal.at.returns c).After-single-at p ∙ rw (eq-eqb _ 0 c.if-outside-at-ne0.false, eq-eqb _ 0 c.if-either-at-ne0.false)),
-      c.wide.ensures.1,
-    )
+returns c = (
+  λ p. c.wide.ensures.0 ∙ sym (adds (goal.at.returns c).After-single-at p ∙ rw (eq-eqb _ 0 c.if-outside-at-ne0.false, eq-eqb _ 0 c.if-either-at-ne0.false)),
+  c.wide.ensures.1,
+)

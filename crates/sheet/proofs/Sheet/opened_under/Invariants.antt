@@ -2,7 +2,6 @@
 use Prim.Native.Nat.{◌-◌, ◌^◌, ◌≤◌}
 use mathlib.Core.Path.{◌≡◌}
 use Rattle.ground.proofs.Filled.{Filled}
-use Rattle.classes.specs.Standings.{outs, eithers}
 use Rattle.sheet.specs.Record.{opened_under, quantity, outside_counts, either_counts}
 use Rattle.sheet.proofs.Sheet.opened_under.Given as goal
 
