@@ -6,7 +6,6 @@ ghost use Rattle.print.specs.Texts.{decimal};
 ghost use Rattle.machine.specs.Machine.{refusal as refusal_text, spoken as spoken_text};
 ghost use Rattle.machine.specs.AtHand.{refusal_room};
 
-
 // A word, a number, what stands between, a number and a newline.
 pub fn put_pair(out: &mut [u8], at: usize, word: &[u8], x: u64, between: &[u8], y: u64) -> usize
     requires { at + length word.now + length between.now + 41 ≤ length out.old }

@@ -1,11 +1,9 @@
 use Prim.Native.Nat.{ℕ}
-use mathlib.Core.Bool.{Bool, true}
+use mathlib.Core.Bool.{Bool}
 use mathlib.Core.Path.{◌≡◌, refl, sym, ◌∙◌, ap}
 use native.Mathlib.Omega.{arith}
-use borrow.Author.Count.{below_more}
 use Rattle.ground.proofs.Cases.{clash, decided_yes, decided_no}
 use Rattle.tables.specs.Tables.{entry, own}
-use Rattle.profiles.specs.Profiles.{breaks}
 use Rattle.classes.specs.Standings.{tells}
 use Rattle.classes.specs.declared.Standing.TheVariants.{Either}
 use Rattle.classes.proofs.obeys.Goals as goal

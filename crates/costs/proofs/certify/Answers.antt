@@ -28,10 +28,13 @@ loop-b-preserved c =
       l.invariant.1,
       l.invariant.2,
       (elim c.if-s-room.branch [ then-s-room+else-q-p w ↦ ap length w.costs-is ∙ simp length-set l.invariant.3 | else-s-room w ↦ ap length w.costs-is ∙ l.invariant.3 ]),
-      (elim c.if-s-room.branch [ then-s-room+else-q-p w ↦ rw w.costs-is (priced_set c.args.m c.args.need c.args.room (value_at c.args.plus.now) (value_at c.args.minus.now) l.costs l.b l.invariant.4
-          (get_or c.args.sets.now l.b 0) _ row.1 (omega (arith, lt))
-          (omega arith)) | else-s-room w ↦ rw w.costs-is (priced_skip c.args.m c.args.need c.args.room (value_at c.args.plus.now) (value_at c.args.minus.now) l.costs l.b l.invariant.4
-          (λ i. within_no _ _ (omega arith) (λ x t. i x (sym (row.1 x) ∙ t)))) ]),
+      (elim c.if-s-room.branch [
+        | then-s-room+else-q-p w ↦ rw w.costs-is (priced_set c.args.m c.args.need c.args.room (value_at c.args.plus.now) (value_at c.args.minus.now) l.costs l.b l.invariant.4
+            (get_or c.args.sets.now l.b 0) _ row.1 (omega (arith, lt))
+            (omega arith))
+        | else-s-room w ↦ rw w.costs-is (priced_skip c.args.m c.args.need c.args.room (value_at c.args.plus.now) (value_at c.args.minus.now) l.costs l.b l.invariant.4
+            (λ i. within_no _ _ (omega arith) (λ x t. i x (sym (row.1 x) ∙ t))))
+      ]),
     )
 
 pub returns : goal.returns

@@ -10,7 +10,10 @@ returns-then-all-plus c =
 
 pub cover-requires : goal.cover-requires
 cover-requires c =
-    record { node = record {
+    record {
+      node = record {
         stage = c.requires.stage;
         most = to_spare c.args.m c.args.costs.now (has c.args.need) (has c.args.room) c.args.k c.args.plus c.args.minus c.requires.certified (omega arith);
-      }; left_in_bounds = c.requires.k_bound.1 }
+      };
+      left_in_bounds = c.requires.k_bound.1;
+    }

@@ -23,13 +23,17 @@ loop-sets-init c = (refl, λ l f. zero-le)
 
 pub of_size-requires : goal.of_size-requires
 of_size-requires c =
-    let small = few (goal.at.of_size-requires c).At-loop-sets in record { stage = record {
+    let small = few (goal.at.of_size-requires c).At-loop-sets in record {
+      stage = record {
         marks = c.requires.marks;
         small = c.requires.small;
         of_boxes = c.sets-sets.ensures c.args.m c.requires.marks;
         of_singles = c.singles-singles.ensures c.args.m c.requires.marks;
         least = c.loop-sets.invariant.1;
-      }; certified = c.weighed-known.ensures; k_bound = (omega (arith, small.0, small.1), omega (arith, small.0)) }
+      };
+      certified = c.weighed-known.ensures;
+      k_bound = (omega (arith, small.0, small.1), omega (arith, small.0));
+    }
 
 pub overflow_add-k : goal.overflow_add-k
 overflow_add-k c = let small = few (goal.at.overflow_add-k c).At-loop-sets in omega (arith, small.0, small.1)

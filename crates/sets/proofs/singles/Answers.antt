@@ -2,7 +2,6 @@ use mathlib.Core.Path.{refl, ◌∙◌}
 use Prim.Native.Nat.{◌^◌, ◌≤◌}
 use native.Mathlib.Omega.{arith}
 use lib.Pow.{pow_mono}
-use Rattle.boxes.specs.Boxes.{single}
 use Rattle.boxes.proofs.Choices.{through_wide}
 use Rattle.sets.specs.Sets.{set_marks}
 use Rattle.ground.proofs.Filled.{filled_none, filled_more}

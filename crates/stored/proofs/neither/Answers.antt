@@ -1,9 +1,6 @@
-use Prim.Native.Nat.{◌<◌}
-use mathlib.Core.Logic.{⊎_elim}
 use mathlib.Core.Path.{◌≡◌}
 use native.Mathlib.Omega.{arith}
-use borrow.Author.Tests.{eqb-false}
-use Rattle.stored.proofs.Thirds.{neither_none, neither_set, neither_left, neither_done}
+use Rattle.stored.proofs.Thirds.{neither_none, neither_done}
 use Rattle.stored.proofs.neither.Goals as goal
 
 pub loop-c-init : goal.loop-c-init

@@ -1,11 +1,6 @@
-use Prim.Native.Nat.{◌+◌}
-use mathlib.Core.Path.{◌≡◌, refl, ap, ap₂, ◌∙◌}
+use mathlib.Core.Path.{refl}
 use native.Mathlib.Omega.{arith}
-use borrow.Author.Count.{below_more}
-use lib.Dec.{eqb}
-use borrow.Author.Tests.{eqb-true, eq-eqb}
-use Rattle.tables.specs.Tables.{entry}
-use Rattle.ground.proofs.Cases.{decided_yes, and_left, and_right}
+use Rattle.ground.proofs.Cases.{decided_yes}
 use Rattle.tables.proofs.is_added.Goals as goal
 
 pub loop-b-init : goal.loop-b-init

@@ -1,5 +1,4 @@
 -- By whether the line is dated, and then by what its part behind the date asks for.
-use mathlib.Core.Logic.{⊎_elim}
 use native.Mathlib.Omega.{arith}
 use Rattle.dates.proofs.Dated.{dated_long}
 use Rattle.dates.specs.Texts.{DatingOf}

@@ -97,11 +97,14 @@ amount_shift-requires c = omega (arith, amount_most _ (amount (goal.at.amount_sh
 
 pub fits_at-requires : goal.fits_at-requires
 fits_at-requires c =
-    let ok = marks (goal.at.fits_at-requires c).Else-not-marks_ok in record { over = record {
+    let ok = marks (goal.at.fits_at-requires c).Else-not-marks_ok in record {
+      over = record {
         marks = omega (arith, marks_most most_marks _ ok);
         low = low (goal.at.fits_at-requires c).Else-power2-c;
         long = omega (arith, boxes_fit _ ok);
-      }; most_bound = (omega (arith, top_small c.args.more), omega arith) }
+      };
+      most_bound = (omega (arith, top_small c.args.more), omega arith);
+    }
 
 pub returns-then-fits_at : goal.returns-then-fits_at
 returns-then-fits_at c p =

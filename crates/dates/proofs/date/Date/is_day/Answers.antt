@@ -1,7 +1,7 @@
 -- By the month, then by the day against the days of the month.
 use mathlib.Core.Path.{sym}
 use native.Mathlib.Omega.{arith}
-use borrow.Author.Tests.{ltb-true, ltb-false}
+use borrow.Author.Tests.{ltb-false}
 use Rattle.dates.proofs.Calendar.{month_low, month_high, day_low, day_high}
 use Rattle.dates.proofs.date.Date.is_day.Goals as goal
 
