@@ -39,7 +39,7 @@ use Rattle.histories.specs.Histories.{Good, number_of, accepted}
 use Rattle.histories.proofs.Afresh.{out_above}
 use Rattle.histories.proofs.Histories.{good_all}
 use Rattle.histories.proofs.Travels.{good_storable, good_read, form-kept}
-use Rattle.lent.specs.Entries.{Put, ChangesBy, same}
+use Rattle.lent.specs.Entries.{valued, Put, ChangesBy, same}
 use Rattle.lent.specs.declared.Reply.{Reply}
 use Rattle.demands.specs.Demand2.{Lines}
 use Rattle.demands.specs.Standings.{Converted, Standings}
@@ -121,13 +121,17 @@ old_reads r g plain bare none =
     subst (λ (q : Record). ReadingBy First most_marks (form_by First r) (good q)) (cut_same r g none)
     (reads_back First r (omega arith) (good_storable g) (first_tells r (λ c l. plain c) bare))
 
+wrote_converted : {r : Record} {s : Sheet} {out later : List ℕ} {v : Value} → form (record_of s) ≡ form r → Writes most_marks s out v later → v.number ≡ 0
+    → Converted r out (valued v) later
+wrote_converted e (Writes.spoiled n) z = absurd (omega arith)
+wrote_converted e (Writes.short w l) z = absurd (omega arith)
+wrote_converted {out = out} e (Writes.written w l) z =
+    record { size = ap length e; stands = ap (λ (x : List ℕ). x ++ drop (length x) out) e }
+
 put_converted : {r : Record} {out later : List ℕ} {reply : Reply} (s : Sheet) → form (record_of s) ≡ form r → Put (same s) out reply later → reply.answer ≡ 0
     → Converted r out reply later
 put_converted s e (Put.refused n) z = absurd (n refl)
-put_converted s e (Put.written y (Writes.spoiled n)) z = absurd (omega arith)
-put_converted s e (Put.written y (Writes.short w l)) z = absurd (omega arith)
-put_converted {out = out} s e (Put.written y (Writes.written w l)) z =
-    record { size = ap length e; stands = ap (λ (x : List ℕ). x ++ drop (length x) out) e }
+put_converted s e (Put.written y w) z = wrote_converted e w z
 
 converts : {t out later : List ℕ} {reply : Reply} {r : Record} → Bytes t → ReadingBy First most_marks t (good r)
     → ChangesBy (ReadsBy First most_marks entries t) same out reply later → reply.answer ≡ 0 → Converted r out reply later
