@@ -3,14 +3,13 @@ use mathlib.Core.Path.{◌≡◌, sym, ap, subst, ◌∙◌}
 use mathlib.Core.List.{List}
 use native.Mathlib.Omega.{arith}
 use lib.ListN.{length, drop, length-drop}
-use Rattle.stored.specs.Fields.{refused}
 use Rattle.pla_lines.specs.Lines.{first_line, words_in}
 use Rattle.pla_lines.specs.Parts.{Hears}
 use Rattle.pla_lines.proofs.Fronts.{from-drop}
 use Rattle.pla_lines.proofs.FirstLine.{line_inside}
 use Rattle.pla_reading.proofs.Lines.{Reached, reached_none, cubes_few, marks_few, in-boxes, line_refused, line_ends, line_taken, all_read, answered}
 use Rattle.pla_reading.proofs.read_by.Goals as goal
-use Rattle.pla_reading.proofs.read_by.Goals.{After-judged, After-size}
+use Rattle.pla_reading.proofs.read_by.Goals.{After-judged}
 
 -- what was heard of the line at the offset
 heard : (c : After-judged)
@@ -20,20 +19,12 @@ heard c =
     let t = c.args.text.now in
     subst (λ (x : List ℕ). Hears l.said.inputs (words_in x) c.read-heard.result) (from-drop l.at t) c.read-heard.ensures
 
--- how long the line is
-size_is : (c : After-size)
-    → c.size.result ≡ length (first_line (drop c.loop-at.at c.args.text.now))
-size_is c =
-    let l = c.loop-at in
-    let t = c.args.text.now in
-    c.size.ensures ∙ ap (λ (x : List ℕ). length (first_line x)) (from-drop l.at t)
+-- how long the line at the offset is, and that it ends inside the text
+size_is : {line : List ℕ} (at n : ℕ) (t : List ℕ) → line ≡ drop at t → n ≡ length (first_line line) → n ≡ length (first_line (drop at t))
+size_is at n t e h = h ∙ ap (λ (x : List ℕ). length (first_line x)) e
 
-line_fits : (c : After-size)
-    → c.loop-at.at + c.size.result ≤ length c.args.text.now
-line_fits c =
-    let l = c.loop-at in
-    let t = c.args.text.now in
-    omega (arith, size_is c, line_inside (drop l.at t), length-drop l.at t)
+line_fits : (at n : ℕ) (t : List ℕ) → at ≤ length t → n ≡ length (first_line (drop at t)) → at + n ≤ length t
+line_fits at n t inside h = omega (arith, line_inside (drop at t), length-drop at t)
 
 pub loop-at-init : goal.loop-at-init
 loop-at-init c = reached_none _ _ c.nothing-said.ensures
@@ -65,19 +56,25 @@ returns-in-Refused c =
     answered _ (line_refused t l.said l.at _ _ l.invariant (omega arith) (heard (goal.at.returns-in-Refused c).After-judged) c.judged.ensures _ _ c.in-Refused.is) c.refused.ensures
 
 pub overflow_add-at : goal.overflow_add-at
-overflow_add-at c = omega (arith, line_fits c)
+overflow_add-at c =
+    let l = c.loop-at in
+    let t = c.args.text.now in
+    omega (arith, line_fits l.at c.size.result t (omega arith) (size_is l.at c.size.result t (from-drop l.at t) c.size.ensures))
 
 pub overflow_add-at-in-loop-at : goal.overflow_add-at-in-loop-at
-overflow_add-at-in-loop-at c = omega (arith, line_fits c)
+overflow_add-at-in-loop-at c =
+    let l = c.loop-at in
+    let t = c.args.text.now in
+    omega (arith, line_fits l.at c.size.result t (omega arith) (size_is l.at c.size.result t (from-drop l.at t) c.size.ensures))
 
 pub loop-at-smaller : goal.loop-at-smaller
-loop-at-smaller c = omega (arith, line_fits c)
+loop-at-smaller c = omega arith
 
 pub loop-at-preserved : goal.loop-at-preserved
 loop-at-preserved c =
     let l = c.loop-at in
     let t = c.args.text.now in
-    subst (λ (n : ℕ). Reached t c.in-On.s (l.at + n + 1)) (sym (size_is c))
+    subst (λ (n : ℕ). Reached t c.in-On.s (l.at + n + 1)) (sym (size_is l.at c.size.result t (from-drop l.at t) c.size.ensures))
     (line_taken t l.said l.at _ _ l.invariant (omega arith) (heard (goal.at.loop-at-preserved c).After-judged) c.judged.ensures _ c.in-On.is)
 
 pub comes_to-requires-2 : goal.comes_to-requires-2

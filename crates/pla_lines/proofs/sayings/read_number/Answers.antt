@@ -1,4 +1,3 @@
-use mathlib.Core.Logic.{⊎_elim}
 use Prim.Native.Nat.{◌<◌}
 use mathlib.Core.Path.{refl}
 use native.Mathlib.Omega.{arith}
@@ -28,7 +27,7 @@ grown-n-requires c = (omega arith, omega arith)
 pub loop-i-preserved : goal.loop-i-preserved
 loop-i-preserved c =
     let l = c.loop-i in
-    let plain : 0 < l.i → 0 < l.n = λ h. (⊎_elim (λ w. omega arith) (λ w. absurd (omega arith)) c.else-i-gt0.either) in
+    let plain : 0 < l.i → 0 < l.n = λ h. grind arith in
     (omega arith, rw c.grown-n.ensures (told_more _ l.i l.n l.invariant.1 (omega arith) (omega arith) (omega arith) plain))
 
 pub returns : goal.returns

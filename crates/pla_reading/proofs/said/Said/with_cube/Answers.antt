@@ -1,25 +1,18 @@
 -- A law for each way out; the box is below 3^5, the length of the table.
-use Prim.Native.Nat.{◌<◌}
 use native.Mathlib.Omega.{arith}
 use borrow.Author.Tests.{not-true, not-false}
 use Rattle.boxes.proofs.Numbers.{boxes_mono}
 use Rattle.pla_reading.proofs.Keeping.{cube_early, cube_kept}
 use Rattle.pla_reading.proofs.said.Said.with_cube.Goals as goal
-use Rattle.pla_reading.proofs.said.Said.with_cube.Goals.{After-struct_known-2-1}
-
-in_table : (c : After-struct_known-2-1) → c.args.b < 243
-in_table c =
-    let p = c.requires in
-    omega (arith, p.inputs_le_most_marks.1, boxes_mono p.inputs_le_most_marks.0)
 
 pub returns-then-not-self : goal.returns-then-not-self
 returns-then-not-self c s kept = cube_early s _ _ kept _ (not-true _ c.if-not-self.true)
 
 pub offset_bounds-sets-b : goal.offset_bounds-sets-b
-offset_bounds-sets-b c = omega (arith, in_table c)
+offset_bounds-sets-b c = omega (arith, c.requires.inputs_le_most_marks.1, boxes_mono c.requires.inputs_le_most_marks.0)
 
 pub bounds-sets-b : goal.bounds-sets-b
-bounds-sets-b c = in_table (goal.at.bounds-sets-b c).After-struct_known-2-1
+bounds-sets-b c = omega (arith, c.requires.inputs_le_most_marks.1, boxes_mono c.requires.inputs_le_most_marks.0)
 
 pub returns : goal.returns
 returns c s kept =
