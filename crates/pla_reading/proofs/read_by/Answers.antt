@@ -3,7 +3,6 @@ use mathlib.Core.Path.{◌≡◌, sym, ap, subst, ◌∙◌}
 use mathlib.Core.List.{List}
 use native.Mathlib.Omega.{arith}
 use lib.ListN.{length, drop, length-drop}
-use Rattle.stored.specs.Fields.{refused}
 use Rattle.pla_lines.specs.Lines.{first_line, words_in}
 use Rattle.pla_lines.specs.Parts.{Hears}
 use Rattle.pla_lines.proofs.Fronts.{from-drop}
