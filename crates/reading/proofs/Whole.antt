@@ -8,7 +8,7 @@ use lib.Dec.{eqb, ltb}
 use lib.ListN.{length, get_or, drop}
 use borrow.Author.Tests.{lt-ltb, eq-eqb, ne_eqb}
 use Rattle.ground.proofs.Cases.{mark, same_or, clash}
-use Rattle.boxes.specs.Sums.{sum, only}
+use Rattle.boxes.specs.Sums.{only}
 use Rattle.boxes.proofs.Boxes.{sum_in-all}
 use Rattle.boxes.proofs.Sums.{sum-zero, sum_ext, only-le}
 use Rattle.tables.specs.Tables.{entry}

@@ -3,7 +3,6 @@ use Prim.Native.Nat.{ℕ, ◌^◌}
 use mathlib.Core.Path.{subst}
 use borrow.Author.Tests.{not-true, not-false}
 use Rattle.sections.specs.Parts.{FieldRead}
-use Rattle.sections.proofs.Offsets.{field_inside}
 use Rattle.sections.proofs.Entries.{count_taken, count_wrong, part_stopped, part_after}
 use Rattle.sections.proofs.read.Goals as goal
 use Rattle.sections.proofs.read.Goals.{After-read-count}

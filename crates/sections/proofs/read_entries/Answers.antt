@@ -96,12 +96,11 @@ pub overflow_add-low : goal.overflow_add-low
 overflow_add-low c = omega (arith, small (goal.at.overflow_add-low c).Else-not-combination)
 
 pub loop-left-preserved : goal.loop-left-preserved
-loop-left-preserved c =
-    (
-      c.loop-left.invariant.0,
-      rw c.has_in.ensures
-          (reached_more c.loop-left.invariant.1 (omega arith) (combination (goal.at.loop-left-preserved c).After-read-combination) (not-false _ c.if-not-combination.false) (omega arith) (number (goal.at.loop-left-preserved c).After-read-behind) (not-false _ c.if-not-behind.false)),
-    )
+loop-left-preserved c = (
+  c.loop-left.invariant.0,
+  rw c.has_in.ensures
+      (reached_more c.loop-left.invariant.1 (omega arith) (combination (goal.at.loop-left-preserved c).After-read-combination) (not-false _ c.if-not-combination.false) (omega arith) (number (goal.at.loop-left-preserved c).After-read-behind) (not-false _ c.if-not-behind.false)),
+)
 
 pub returns : goal.returns
 returns c = good refl (reached_end c.loop-left.invariant.1 (omega arith))

@@ -32,8 +32,12 @@ pub put_lines-b-requires : goal.put_lines-b-requires
 put_lines-b-requires c =
     let of = c.requires.sheet_of_record.1 in
     let g = list_given (goal.at.put_lines-b-requires c).After-list-count of in
-    let long : length c.args.sheet.held ≡ entries = search rules in record { m_le_most_marks = sheet_marks of; have_entries = front_inside of.good g c.args.sheet.held long; list_in_bounds = lines_room of g c.class_size-size.ensures
-            c.put_heads-a.ensures c.requires.result_room_in_bounds }
+    let long : length c.args.sheet.held ≡ entries = search rules in record {
+      m_le_most_marks = sheet_marks of;
+      have_entries = front_inside of.good g c.args.sheet.held long;
+      list_in_bounds = lines_room of g c.class_size-size.ensures
+          c.put_heads-a.ensures c.requires.result_room_in_bounds;
+    }
 
 pub put_total-requires : goal.put_total-requires
 put_total-requires c =

@@ -1,9 +1,6 @@
-use mathlib.Core.Bool.{true}
 use mathlib.Core.Path.{refl, sym, ◌∙◌}
 use native.Mathlib.Omega.{arith}
-use borrow.Author.Count.{below_more}
 use Rattle.ground.proofs.Cases.{clash, decided_yes, decided_no}
-use Rattle.profiles.specs.Profiles.{breaks}
 use Rattle.sheet.proofs.Opening.{combinations_fit}
 use Rattle.reading.proofs.groups.obeyed.Goals as goal
 

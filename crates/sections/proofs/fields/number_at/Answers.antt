@@ -15,8 +15,7 @@ overflow_add-n c = let l = c.loop-i in omega (arith, number_small l.n l.i l.inva
 
 pub loop-i-preserved : goal.loop-i-preserved
 loop-i-preserved c =
-    let l = c.loop-i in
-    (
+    let l = c.loop-i in (
       omega arith,
       number_grows c.args.t.now c.args.at c.args.k l.i l.n c.byte.result (omega arith) (omega arith) l.invariant.1 c.byte.ensures.0,
       number_fits l.n l.i c.byte.result l.invariant.2 c.byte.ensures.1,
