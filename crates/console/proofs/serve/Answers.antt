@@ -1,6 +1,6 @@
-use Prim.Native.Nat.{ℕ, ◌+◌, ◌<◌, ◌≤◌}
+use Prim.Native.Nat.{ℕ}
 use mathlib.Core.List.{List}
-use mathlib.Core.Path.{sym, ◌∙◌, subst}
+use mathlib.Core.Path.{sym, subst}
 use native.Mathlib.Omega.{arith}
 use lib.Seq.{length-take-le, take_all}
 use Rattle.machine.proofs.Pieces.{rest_used}
@@ -21,11 +21,17 @@ feed-fed-requires g c =
     let k = length-take-le l.at c.args.piece.now l.invariant.0 in
     record { stands = (a.0, w.position, w.at); count = omega (arith, n, k, c.requires.piece_bound, c.loop-at-test.true); space = omega (arith, l.invariant.1) }
 
+pub slice_bounds-out-end : goal.slice_bounds-out-end
+slice_bounds-out-end g c =
+    let a = c.requires.stands in
+    let w = c.loop-at.invariant.2 a.0 a.1 a.2 in
+    (wrote_front (c.feed-fed.ensures a.0 w.position w.at).fed.laid).1
+
 pub slice_bounds-send-end : goal.slice_bounds-send-end
 slice_bounds-send-end g c =
     let a = c.requires.stands in
     let w = c.loop-at.invariant.2 a.0 a.1 a.2 in
-    (wrote_front (c.feed-fed.ensures a.0 w.position w.at).fed.laid).1
+    sym (length-take-le _ _ (wrote_front (c.feed-fed.ensures a.0 w.position w.at).fed.laid).1)
 
 pub overflow_add-at : goal.overflow_add-at
 overflow_add-at g c =
