@@ -1,7 +1,7 @@
 // A program at its input and output: feeds a session with what is read, and writes at once what it says.
 #![tactic(auto)]
 
-ghost use Rattle.std.specs.Prelude.{◌≡◌, ◌+◌, ◌≤◌, ◌<◌, ◌^◌, length, IfOk, OnOk, IfSome};
+ghost use Rattle.std.specs.Prelude.{◌≡◌, ◌+◌, ◌≤◌, ◌<◌, ◌^◌, length, IfErr, IfOk, OnOk, IfSome};
 ghost use Rattle.std.specs.Io.KnownBytes.{Appends};
 ghost use Rattle.machine.specs.Pieces.{Position};
 ghost use Rattle.sessions.specs.declared.program.Kind.{Kind};
@@ -12,7 +12,7 @@ use sessions::{Kind, Session};
 use std::io::{Read, Write};
 use thiserror::Error;
 
-// Why a program ended before its input did.
+// Why a program ended before its input did. Of a text that could not be written a part may have been.
 #[derive(Debug, Drop, Error)]
 pub enum Failed {
     #[error("the input cannot be read")]
@@ -30,7 +30,8 @@ fn room() -> [u8; Session::ROOM]
 
 // Writes a text; where that fails the program ends by it, so that no result is lost in silence.
 fn send<W: Write>(output: &mut W, text: &[u8]) -> Result<(), Failed>
-    ensures { OnOk result (Appends (W.contents output.old) (W.contents output.new) text.now) }
+    ensures wrote { OnOk result (Appends (W.contents output.old) (W.contents output.new) text.now) }
+    ensures failed { IfErr result (λ e. e ≡ Failed.Output) }
 {
     output.write_all(text).map_err(|_| Failed::Output)
 }
@@ -39,7 +40,8 @@ fn send<W: Write>(output: &mut W, text: &[u8]) -> Result<(), Failed>
 fn serve<W: Write>(s: Session, piece: &[u8], output: &mut W) -> Result<Option<Session>, Failed>
     requires stands { Stands s }
     requires piece_bound { s.line.number + length piece.now < 2 ^ 63 }
-    ensures { IfOk result (λ r. IfSome r (λ after. (k : Kind) (p : Position (machine_of k)) → At k s p → Took k p piece.now after)) }
+    ensures took { IfOk result (λ r. IfSome r (λ after. (k : Kind) (p : Position (machine_of k)) → At k s p → Took k p piece.now after)) }
+    ensures failed { IfErr result (λ e. e ≡ Failed.Output) }
 {
     let mut session = s;
     let mut out = room();
@@ -61,6 +63,7 @@ fn serve<W: Write>(s: Session, piece: &[u8], output: &mut W) -> Result<Option<Se
 fn close<W: Write>(s: Session, output: &mut W) -> Result<(), Failed>
     requires stands { Stands s }
     requires number_bound { s.line.number + 1 < 2 ^ 63 }
+    ensures { IfErr result (λ e. e ≡ Failed.Output) }
 {
     let mut out = room();
     let n = sessions::finish(s, &mut out);

@@ -55,5 +55,5 @@ loop-at-preserved g c =
     let u = rest_used c.args.piece.now l.at (c.feed-fed.ensures a.0 w.position w.at).fed c.loop-at-test.true in
     (u.1, omega (arith, l.invariant.1, c.feed-fed.auto.out), λ k p at. let v = l.invariant.2 k p at in took_more k c.args.piece.now l.at v (c.feed-fed.ensures k v.position v.at))
 
-pub returns : goal.returns
-returns g c = λ k p at. subst (λ (x : List ℕ). Took k p x c.loop-at.session) (take_all c.loop-at.at c.args.piece.now (omega arith)) (c.loop-at.invariant.2 k p at)
+pub returns-clause-took : goal.returns-clause-took
+returns-clause-took g c = λ k p at. subst (λ (x : List ℕ). Took k p x c.loop-at.session) (take_all c.loop-at.at c.args.piece.now (omega arith)) (c.loop-at.invariant.2 k p at)
