@@ -25,7 +25,7 @@ pub enum Call {
 }
 
 // What a call comes to: the combination, and what each table is shifted by in the boxes that contain it.
-#[derive(Drop)]
+#[derive(Clone, Copy)]
 pub struct Move {
     pub at: usize,
     pub outside: Shift,

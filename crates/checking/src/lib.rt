@@ -15,7 +15,7 @@ use sheet::Sheet;
 
 // The faults of a list, in the order in which they are looked for: a number that is no box, a box that overlaps an earlier one, a box that contains an out
 // combination, a combination of the class that is not covered.
-#[derive(Drop)]
+#[derive(Clone, Copy)]
 pub enum Fault {
     NoBox,
     Overlap,
@@ -24,7 +24,7 @@ pub enum Fault {
 }
 
 // What the check answers: the sheet's class table is spoiled; the list fits; or its first fault, with the index of the box, or else the combination.
-#[derive(Drop)]
+#[derive(Clone, Copy)]
 pub enum Finding {
     Spoiled,
     Fitting,
@@ -33,7 +33,7 @@ pub enum Finding {
 
 // The reply to a list, for C too: 0 with the number of the fault, 0 where it fits, and where that is; or the number of a refusal.
 #[repr(C)]
-#[derive(Drop)]
+#[derive(Clone, Copy)]
 pub struct Verdict {
     pub answer: u64,
     pub place: u64,
@@ -66,7 +66,7 @@ fn set_at(m: usize, sets: &[u32; 243], list: &[u8], i: usize) -> u32
 }
 
 // The index of the first box that overlaps an earlier one, and the length where none does; and what the boxes before it cover.
-#[derive(Drop)]
+#[derive(Clone, Copy)]
 struct Union {
     end: usize,
     covered: u32,

@@ -9,7 +9,7 @@ ghost use Rattle.costs.specs.Costs.{Certified, weight};
 pub const WHOLE: u64 = 65536;
 
 // What each box costs by weights, and what the weights make of the room: a list of k boxes has `k * WHOLE + minus - plus` to spare.
-#[derive(Drop)]
+#[derive(Clone, Copy)]
 pub struct Certificate {
     pub costs: [u64; 243],
     pub plus: u64,

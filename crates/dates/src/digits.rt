@@ -4,7 +4,7 @@ ghost use Rattle.ground.specs.Areas.{Wrote};
 ghost use Rattle.dates.specs.Texts.{digits, Numbered};
 
 // What a part reads as that is to be digits.
-#[derive(Drop)]
+#[derive(Clone, Copy)]
 pub enum Number {
     Digits(usize),
     NoDigits,

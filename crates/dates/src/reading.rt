@@ -5,7 +5,7 @@ use crate::date::Date;
 use crate::digits::{Number, read_number};
 
 // What the front of a text reads as that is to be a date and one space.
-#[derive(Drop)]
+#[derive(Clone, Copy)]
 pub enum Dating {
     On(Date),
     NoDate,

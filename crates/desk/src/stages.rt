@@ -31,7 +31,7 @@ pub struct Desk {
 }
 
 // Where a line leads, and how much was written.
-#[derive(Drop)]
+#[derive(Clone, Copy)]
 pub struct Stepped {
     pub desk: Desk,
     pub wrote: usize,

@@ -16,7 +16,7 @@ use stored::Read;
 
 // What every entry returns: the number of 01's table, the place, which is 0 for every number but 10, and the value, which is 0 when refused.
 #[repr(C)]
-#[derive(Drop)]
+#[derive(Clone, Copy)]
 pub struct Reply {
     pub answer: u64,
     pub place: u64,
@@ -100,7 +100,7 @@ fn kept(t: [u32; Sheet::ENTRIES], b: u64) -> Value
 }
 
 // What a lent sheet is asked: a value of its class, or the numbers that it keeps of a line.
-#[derive(Drop)]
+#[derive(Clone, Copy)]
 pub enum Question {
     Size,
     Total,
@@ -145,7 +145,7 @@ pub fn tell(sheet: &[u8], q: Question) -> Reply
 }
 
 // What is put of a lent sheet into an area: the shortest list of its class, or the PLA text of that.
-#[derive(Drop)]
+#[derive(Clone, Copy)]
 pub enum Wanted {
     Lines,
     Pla,

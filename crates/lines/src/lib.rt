@@ -14,7 +14,7 @@ use times;
 use times::{Form, Time};
 
 // What a line behind line 1 asks for: a call on the sheet, with the form of its running time, or the end.
-#[derive(Drop)]
+#[derive(Clone, Copy)]
 pub enum Order {
     Make(Call, Form),
     End,
@@ -22,21 +22,21 @@ pub enum Order {
 }
 
 // What line 1 says.
-#[derive(Drop)]
+#[derive(Clone, Copy)]
 pub enum First {
     Marks(usize),
     NotMarks,
 }
 
 // What a part reads as that is to be P.
-#[derive(Drop)]
+#[derive(Clone, Copy)]
 pub enum Pattern {
     Combination(usize),
     NoPattern,
 }
 
 // What a part reads as that is to be P, one space and T.
-#[derive(Drop)]
+#[derive(Clone, Copy)]
 pub enum Amount {
     Seconds(usize, u64, Form),
     NoAmount,

@@ -16,7 +16,7 @@ use seek;
 use sheet::{Sheet, Value};
 
 // What the lines of a sheet must cover, its class, and what they may cover: a bit for each combination.
-#[derive(Drop)]
+#[derive(Clone, Copy)]
 pub struct Bits {
     pub need: u32,
     pub room: u32,

@@ -12,7 +12,7 @@ pub struct Line {
 }
 
 // What was taken of a piece: the line then, how many bytes, and whether they end the line.
-#[derive(Drop)]
+#[derive(Clone, Copy)]
 pub struct Cut {
     pub line: Line,
     pub used: usize,

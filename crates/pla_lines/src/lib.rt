@@ -10,7 +10,7 @@ mod sayings;
 mod words;
 
 // What was heard. A number that does not fit in 64 bits is told as the largest that does.
-#[derive(Drop)]
+#[derive(Clone, Copy)]
 pub enum Heard {
     Blank,
     Inputs(u64),

@@ -7,14 +7,14 @@ ghost use Rattle.pla_lines.specs.Parts.{capped, Hears, Numbered, Signed, Boxed};
 use crate::Heard;
 
 // A word read as a number.
-#[derive(Drop)]
+#[derive(Clone, Copy)]
 pub enum Number {
     Is(u64),
     NoNumber,
 }
 
 // A word read as a cube.
-#[derive(Drop)]
+#[derive(Clone, Copy)]
 pub enum Cube {
     Of(usize),
     NoCube,

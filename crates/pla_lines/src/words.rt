@@ -5,7 +5,7 @@ ghost use Rattle.pla_lines.specs.Lines.{is_stop};
 ghost use Rattle.pla_lines.specs.Parts.{GapSize, WordSize, NextWord};
 
 // A word: how many bytes stand before it, and how many it has; none where the line has no more words.
-#[derive(Drop)]
+#[derive(Clone, Copy)]
 pub struct Word {
     pub gap: usize,
     pub size: usize,

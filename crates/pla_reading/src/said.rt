@@ -25,7 +25,7 @@ pub struct Said {
 }
 
 // What a line leads to.
-#[derive(Drop)]
+#[derive(Clone, Copy)]
 pub enum Next {
     On(Said),
     End,

@@ -9,7 +9,7 @@ use profiles::Profile;
 use sections::fields;
 
 // Groups that were read: the profile that they make, and where the next field stands; or, if they are not good, the place.
-#[derive(Drop)]
+#[derive(Clone, Copy)]
 pub struct Groups {
     pub good: bool,
     pub at: usize,

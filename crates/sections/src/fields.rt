@@ -3,7 +3,7 @@ ghost use Rattle.std.specs.Prelude.{◌≡◌, ◌+◌, ◌^◌, ◌≤◌, ◌<
 ghost use Rattle.sections.specs.Parts.{number_at, FieldRead};
 
 // A field that was read: its number, and where the next field stands; or, if it is not good, the place.
-#[derive(Drop)]
+#[derive(Clone, Copy)]
 pub struct Field {
     pub good: bool,
     pub at: usize,

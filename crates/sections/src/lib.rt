@@ -12,7 +12,7 @@ use stored::Section;
 
 // A section that was read: what each combination has in it, 0 where it does not stand there, and where the next field stands; or, if it is not good,
 // the place.
-#[derive(Drop)]
+#[derive(Clone, Copy)]
 pub struct Part {
     pub good: bool,
     pub at: usize,

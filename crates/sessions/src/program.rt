@@ -25,7 +25,7 @@ pub struct Program {
 }
 
 // Where a line leads, and how much was written.
-#[derive(Drop)]
+#[derive(Clone, Copy)]
 pub struct Stepped {
     pub program: Program,
     pub wrote: usize,

@@ -15,7 +15,7 @@ pub struct Session {
 }
 
 // The session behind a call, how much of the input it used, and how much it wrote.
-#[derive(Drop)]
+#[derive(Clone, Copy)]
 pub struct Fed {
     pub session: Session,
     pub used: usize,

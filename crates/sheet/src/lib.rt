@@ -30,14 +30,14 @@ pub struct Sheet {
 }
 
 // The number of a call that opens or changes a sheet, and the sheet that is left.
-#[derive(Drop)]
+#[derive(Clone, Copy)]
 pub struct Answer {
     pub number: u64,
     pub sheet: Sheet,
 }
 
 // The number of a call that only reads, and what it tells.
-#[derive(Drop)]
+#[derive(Clone, Copy)]
 pub struct Value {
     pub number: u64,
     pub value: u64,

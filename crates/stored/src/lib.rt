@@ -11,7 +11,7 @@ ghost use Rattle.sheet.specs.Limits.{entries};
 use sheet::Sheet;
 
 // What reading gives: the number of 01's table, the place, which is 0 for every number but 10, and the sheet.
-#[derive(Drop)]
+#[derive(Clone, Copy)]
 pub struct Read {
     pub number: u64,
     pub place: u64,

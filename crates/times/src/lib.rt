@@ -11,7 +11,7 @@ ghost use Rattle.times.specs.Parts.{UpTo, Follows, Led, Paired, Ended, After, Tw
 ghost use Rattle.times.specs.declared.Form.TheVariants.{Hours};
 
 // The form in which a running time is written; NoTime where there is none.
-#[derive(Drop)]
+#[derive(Clone, Copy)]
 pub enum Form {
     NoTime,
     Minutes,
@@ -19,7 +19,7 @@ pub enum Form {
 }
 
 // The seconds and their form, or the place: the length of the longest beginning that is also the beginning of some readable text.
-#[derive(Drop)]
+#[derive(Clone, Copy)]
 pub enum Time {
     Value(u64, Form),
     Fault(usize),
@@ -27,7 +27,7 @@ pub enum Time {
 
 // The reply to a text, for C too: 0 with the value and the number of its form, or 10 with the place.
 #[repr(C)]
-#[derive(Drop)]
+#[derive(Clone, Copy)]
 pub struct Reading {
     pub answer: u64,
     pub place: u64,
@@ -36,7 +36,7 @@ pub struct Reading {
 }
 
 // The number at the front of a text and where the part behind it begins, or the place.
-#[derive(Drop)]
+#[derive(Clone, Copy)]
 pub enum Lead {
     Front(u64, usize),
     Stop(usize),

@@ -8,7 +8,7 @@ ghost use Rattle.std.specs.Prelude.{◌≤◌};
 use crate::{basis, room};
 
 // What comes in, a box or a combination that is not needed, as a set of combinations, and what each part of it gains. 0: nothing gains.
-#[derive(Drop)]
+#[derive(Clone, Copy)]
 pub struct Best {
     set: u32,
     pub gain: f64,

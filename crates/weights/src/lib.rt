@@ -15,7 +15,7 @@ mod room;
 mod walk;
 
 // What each combination weighs, `plus - minus` in parts of 65536.
-#[derive(Drop)]
+#[derive(Clone, Copy)]
 pub struct Weights {
     pub plus: [u32; 32],
     pub minus: [u32; 32],

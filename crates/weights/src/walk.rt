@@ -9,7 +9,7 @@ use crate::{basis, room};
 
 // What comes in on the walk, how much it weighs above what it may, 0 or less, and how far the weights can change until it does; of what
 // is equally near it is that which divides best, by `size`.
-#[derive(Drop)]
+#[derive(Clone, Copy)]
 struct Near {
     set: u32,
     gain: f64,

@@ -44,7 +44,7 @@ pub struct Year {
 }
 
 // Where a line leads, and how much was written.
-#[derive(Drop)]
+#[derive(Clone, Copy)]
 pub struct Stepped {
     pub year: Year,
     pub wrote: usize,

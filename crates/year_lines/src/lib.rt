@@ -14,14 +14,14 @@ use machine::Line;
 use times::Form;
 
 // What line 1 says.
-#[derive(Drop)]
+#[derive(Clone, Copy)]
 pub enum Named {
     Year(usize),
     NoYear,
 }
 
 // What a line behind line 2 asks for: a call on a day, with the form of its running time, or what it asks for as a line of the desk.
-#[derive(Drop)]
+#[derive(Clone, Copy)]
 pub enum Slip {
     Dated(Date, Call, Form),
     Plain(Order),
