@@ -1,7 +1,7 @@
 # make            the library, target/staticlib/libvault.a, and the desk programs, target/bin/holdings and months: proved, then compiled (for x86-64)
 # make sample     each desk program on a sample session
 # make test       the tests outside the proofs (CALLS=400000 random calls from SEED=1)
-# make check      everything: the gate proves all from nothing, then the tests run on an archive made of what was just proved
+# make check      everything: the gate proves all that it has not passed on this machine, then the tests run on an archive made of what was just proved
 # make bench      the library's times beside plain C's and glpk's (MODULE=1: of its module, compiled once more by the kit's clang with -O3)
 # make count      what single jobs inside the library cost, in instructions (where valgrind is installed) and in time
 # make sanitize   the library and the C programs of tests/ and examples/ under AddressSanitizer, UBSan and valgrind (see tests/sanitize)
@@ -27,8 +27,8 @@ all: $(library) $(programs)
 # The crate of an archive: a library of the same name stands below vault's.
 crate = $(patsubst vault,vault_c,$(1))
 
-# rt proves what changed since it was last proved, and builds only what it proved, in the crate's folder. After the gate nothing has changed: the layers
-# below are taken as they are, and the crate alone, which is thin, is checked again, since rt makes an archive in the run that proves it.
+# rt builds only what it proved, in the crate's folder and in the run that proves it. The layers below are taken from what a check kept, in this checkout or
+# another on this machine; where none did, they are checked first, as behind the gate, which keeps what it proved for itself alone.
 target/staticlib/lib%.a: $(sources)
 	cd crates/$(call crate,$*) && rt lib
 	install -D -m 644 crates/$(call crate,$*)/out/lib$(call crate,$*).a $@
