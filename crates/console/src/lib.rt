@@ -1,14 +1,14 @@
-// A program at its input and output: feeds a session with what is read, and writes at once what it says.
+// A program at its input and output: feeds a session with what is read, and writes at once what it says. What it writes is the output of what it reads.
 #![tactic(auto)]
 
-ghost use Rattle.std.specs.Prelude.{◌≡◌, ◌+◌, ◌≤◌, ◌<◌, ◌^◌, length, IfErr, IfOk, OnOk, IfSome};
+ghost use Rattle.std.specs.Prelude.{◌≡◌, ◌+◌, ◌≤◌, ◌<◌, ◌^◌, length, IfOk, IfErr, OnOk};
 ghost use Rattle.std.specs.Io.KnownBytes.{Appends};
 ghost use Rattle.machine.specs.Pieces.{Position};
-ghost use Rattle.sessions.specs.declared.program.Kind.{Kind};
-ghost use Rattle.sessions.specs.Programs.{machine_of};
-ghost use Rattle.sessions.specs.Sessions.{room, At, Stands, Took};
+ghost use Rattle.sessions.specs.Sessions.{At, Stands};
+ghost use Rattle.console.specs.Serves.{Fetched, Served, Closed, Serves};
 
-use sessions::{Kind, Session};
+use machine::Program;
+use sessions::{ROOM, Session};
 use std::io::{Read, Write};
 use thiserror::Error;
 
@@ -21,11 +21,16 @@ pub enum Failed {
     Output,
 }
 
-// An output area. Made in a function of its own, so that no proof meets its zeros.
-fn room() -> [u8; Session::ROOM]
-    ensures { room ≡ length result }
+// How often a program reads. A proved loop has to end, and nothing says that the input does: no run uses up this number.
+const READS: u64 = 1_000_000_000_000_000;
+
+// Reads the next piece; where that fails the program ends by it.
+fn fetch<R: Read>(input: &mut R, piece: &mut [u8]) -> Result<usize, Failed>
+    ensures within { IfOk result (λ n. n ≤ length piece.new) }
+    ensures read { IfOk result (λ n. Fetched n piece.new (R.remaining input.old) (R.remaining input.new)) }
+    ensures failed { IfErr result (λ e. e ≡ Failed.Input) }
 {
-    [0u8; Session::ROOM]
+    input.read(piece).map_err(|_| Failed::Input)
 }
 
 // Writes a text; where that fails the program ends by it, so that no result is lost in silence.
@@ -36,72 +41,59 @@ fn send<W: Write>(output: &mut W, text: &[u8]) -> Result<(), Failed>
     output.write_all(text).map_err(|_| Failed::Output)
 }
 
-// One piece of input: what a line says is written before the next line is looked at. Gives the session behind it, or nothing where the program stops.
-fn serve<W: Write>(s: Session, piece: &[u8], output: &mut W) -> Result<Option<Session>, Failed>
-    requires stands { Stands s }
-    requires piece_bound { s.line.number + length piece.now < 2 ^ 63 }
-    ensures took { IfOk result (λ r. IfSome r (λ after. (k : Kind) (p : Position (machine_of k)) → At k s p → Took k p piece.now after)) }
+// One piece of input: what a line says is written before the next line is looked at. Behind the line with which the program is over nothing is.
+fn serve<W: Write, P: Program>(
+    session: &mut Session<P>,
+    piece: &[u8],
+    output: &mut W,
+) -> Result<(), Failed>
+    requires stands { Stands P.kind session.old }
+    requires piece_bound { session.old.line.number + length piece.now < 2 ^ 63 }
+    ensures served { OnOk result ((p : Position P.kind.machine) → At P.kind session.old p → Served P.kind p piece.now session.new (W.contents output.old) (W.contents output.new)) }
     ensures failed { IfErr result (λ e. e ≡ Failed.Output) }
 {
-    let mut session = s;
-    let mut out = room();
-    let mut at: usize = 0;
-    while at < piece.len() {
-        let fed = sessions::feed(session, &piece[at..], &mut out);
-        let n = fed.wrote;
-        session = fed.session;
-        send(output, &out[..n])?;
+    let mut out = [0u8; ROOM];
+    let mut rest = piece;
+    while !rest.is_empty() {
+        let fed = session.feed(rest, &mut out);
+        send(output, &out[..fed.wrote])?;
+        let (_, behind) = rest.split_at(fed.used);
+        rest = behind;
         if session.is_over() {
-            return Ok(None);
+            return Ok(());
         }
-        at += fed.used;
     }
-    Ok(Some(session))
+    Ok(())
 }
 
 // The input is at its end.
-fn close<W: Write>(s: Session, output: &mut W) -> Result<(), Failed>
-    requires stands { Stands s }
-    requires number_bound { s.line.number + 1 < 2 ^ 63 }
-    ensures { IfErr result (λ e. e ≡ Failed.Output) }
+fn close<W: Write, P: Program>(session: &mut Session<P>, output: &mut W) -> Result<(), Failed>
+    requires stands { Stands P.kind session.old }
+    requires number_bound { session.old.line.number + 1 < 2 ^ 63 }
+    ensures closed { OnOk result ((p : Position P.kind.machine) → At P.kind session.old p → Closed P.kind p (W.contents output.old) (W.contents output.new)) }
+    ensures failed { IfErr result (λ e. e ≡ Failed.Output) }
 {
-    let mut out = room();
-    let n = sessions::finish(s, &mut out);
+    let mut out = [0u8; ROOM];
+    let n = session.finish(&mut out);
     send(output, &out[..n])
 }
 
-// One read. An error of reading ends the program.
-fn turn<R: Read, W: Write>(
-    s: Session,
-    input: &mut R,
-    output: &mut W,
-) -> Result<Option<Session>, Failed>
-    requires stands { Stands s }
-    requires number_bound { s.line.number + 4096 < 2 ^ 63 }
-    ensures { IfOk result (λ r. IfSome r (λ after. Stands after × (after.line.number ≤ s.line.number + 4096))) }
+// A program, from the first line to the end. An error of reading or writing ends it.
+pub fn run<R: Read, W: Write, P: Program>(input: &mut R, output: &mut W) -> Result<(), Failed>
+    ensures { OnOk result (Serves P.kind (R.remaining input.old) (R.remaining input.new) (W.contents output.old) (W.contents output.new)) }
 {
-    let mut buf = [0u8; 4096];
-    match input.read(&mut buf) {
-        Ok(0) => {
-            close(s, output)?;
-            Ok(None)
+    P::laws();
+    let mut session = Session::<P>::new();
+    let mut piece = [0u8; 4096];
+    for turn in 0..READS {
+        let n = fetch(input, &mut piece)?;
+        if n == 0 {
+            return close(&mut session, output);
         }
-        Ok(n) => serve(s, &buf[..n], output),
-        Err(_) => Err(Failed::Input),
-    }
-}
-
-// A program of this kind, from the first line to the end. A proved loop has to end, and nothing says that the input does: the turns are counted down, from
-// a number that no run uses up.
-pub fn run<R: Read, W: Write>(kind: Kind, input: &mut R, output: &mut W) -> Result<(), Failed> {
-    let mut session = Session::new(kind);
-    let mut turns = 1_000_000_000_000_000u64;
-    while turns > 0 {
-        let Some(after) = turn(session, input, output)? else {
+        serve(&mut session, &piece[..n], output)?;
+        if session.is_over() {
             return Ok(());
-        };
-        session = after;
-        turns -= 1;
+        }
     }
-    Ok(())
+    Err(Failed::Input)
 }

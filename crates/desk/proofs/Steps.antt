@@ -1,11 +1,13 @@
 -- A line at the desk, and the end of the input: what the calls of the code tell is a step from the desk's state.
-use Prim.Native.Nat.{ℕ, ◌≤◌}
+use Prim.Native.Nat.{ℕ, ◌≤◌, ◌<◌, ◌^◌}
 use mathlib.Core.Path.{◌≡◌, refl, sym, ap, ◌∙◌, subst}
+use mathlib.Core.Bool.{Bool, cond}
 use mathlib.Core.List.{List, []}
 use native.Mathlib.Omega.{arith}
+use borrow.Author.Tests.{ne_eqb}
 use Rattle.ground.specs.Areas.{Wrote}
-use Rattle.ground.proofs.Areas.{wrote_none}
-use Rattle.ground.proofs.Cases.{if}
+use Rattle.ground.proofs.Areas.{wrote_none, wrote_text}
+use Rattle.ground.proofs.Cases.{if, clash}
 use Rattle.sheet.specs.Limits.{most_marks, entries, marks_ok}
 use Rattle.sheet.specs.Record.{Record, sheet_of, opened}
 use Rattle.sheet.specs.Answers.{open_of}
@@ -16,10 +18,12 @@ use Rattle.changes.specs.declared.Call.{Call}
 use Rattle.histories.specs.Histories.{number_of, after}
 use Rattle.histories.proofs.Kept.{did_kept}
 use Rattle.machine.specs.Rows.{Row}
-use Rattle.machine.specs.Machine.{spoken}
-use Rattle.machine.specs.Steps.{page_room, StoppedBy}
+use Rattle.machine.specs.Machine.{refusal, spoken}
+use Rattle.machine.specs.Steps.{page_room, SteppedBy, StoppedBy}
+use Rattle.machine.specs.Programs.{Runs, Taken, Steps, Stops, SilentWhenOver}
+use Rattle.machine.proofs.Laid.{spoken_short}
 use Rattle.machine.proofs.Outputs.{stepped_one, stopped_one}
-use Rattle.machine.proofs.Steps.{answered, refused}
+use Rattle.machine.proofs.Steps.{answered}
 use Rattle.lines.specs.declared.Order.{Order}
 use Rattle.times.specs.declared.Form.{Form}
 use Rattle.lines.specs.declared.Order.TheVariants.{Make, End, Unreadable}
@@ -28,13 +32,11 @@ use Rattle.lines.specs.declared.First.TheVariants.{Marks, NotMarks}
 use Rattle.lines.specs.Words.{RowAsks, RowOpens}
 use Rattle.lines.proofs.Settled.{row_opens_settled}
 use Rattle.desk.specs.Prints.{first_number, first_record, State, first, going, over, opens, shut, made, unread, ended, Step, Stop, holdings}
-use Rattle.desk.specs.States.{record_in, stage_in, In, SteppedTo}
-use Rattle.desk.specs.Parts.{OfRecord, led_to, FirstAnswered, Printed}
-use Rattle.desk.proofs.Outputs.{one_answer}
-use Rattle.desk.specs.declared.stages.Stage.{Stage}
-use Rattle.desk.specs.declared.stages.Stage.TheVariants.{Opening, Going, Over}
+use Rattle.desk.specs.States.{desk_of, kind, In, Stepped, SteppedTo}
+use Rattle.desk.specs.Parts.{OfRecord, SheetOfRecord, FirstAnswered, FirstTaken, LaterTaken, Printed}
+use Rattle.desk.proofs.Outputs.{one_answer, good_step}
 use Rattle.desk.specs.declared.stages.Desk.{Desk}
-use Rattle.desk.specs.declared.stages.Stepped.{Stepped}
+use Rattle.desk.specs.declared.stages.Desk.TheVariants.{Opening, Going, Over}
 
 -- what line 1 is answered
 
@@ -52,101 +54,128 @@ pub first_settled : {row : Row} {a b : Answer} → FirstAnswered row a → First
 first_settled f g =
     f.is ∙ ap (λ (x : First). record { number = first_number x; sheet = sheet_of entries (first_record x) }) (row_opens_settled f.opens g.opens) ∙ sym g.is
 
+-- a refusal is what is spoken where there is one
+spoken_refusal : (k a : ℕ) → (a ≡ 0 → ⊥) → spoken k a ≡ refusal k a
+spoken_refusal k a n = ap (λ (b : Bool). cond b [] (refusal k a)) (ne_eqb a 0 n)
+
+pub refusal_short : (k a : ℕ) {w : ℕ} {out later : List ℕ} → (a ≡ 0 → ⊥) → Wrote out 0 (refusal k a) w later → k < 2 ^ 64 → a < 2 ^ 64 → w ≤ page_room
+refusal_short k a n p h l = spoken_short k a (wrote_text (sym (spoken_refusal k a n)) p) h l
+
 -- line 1
 
 module _ {row : Row} {a : Answer} (f : FirstAnswered row a) where
   pub number_is : a.number ≡ first_number f.says
   number_is = ap (λ (x : Answer). x.number) f.is
 
-  desk_is : (stage : Stage) → ◌≡◌ {A = Desk} (record { stage = stage; sheet = a.sheet }) (record { stage = stage; sheet = sheet_of entries (first_record f.says) })
-  desk_is stage = ap (λ (x : Answer). record { stage = stage; sheet = x.sheet }) f.is
+  pub first_opened : {k : ℕ} {out : List ℕ} → a.number ≡ 0 → FirstTaken k row out (Going a.sheet) 0 out
+  first_opened {out = out} z =
+      answered (going (first_record f.says)) 0 (opens f.opens (sym number_is ∙ z)) (ap (λ (x : Answer). Going x.sheet) f.is) refl (wrote_none out 0) (omega arith)
 
-  module _ {k w : ℕ} {out later : List ℕ} where
-    pub first_opened : Wrote out 0 (spoken k a.number) w later → w ≤ page_room → a.number ≡ 0
-        → SteppedTo k first row out (led_to Going a.sheet w) later
-    first_opened p short z = answered (going (first_record f.says)) 0 (opens f.opens (sym number_is ∙ z)) (desk_is Going) z p short
-
-    pub first_shut : Wrote out 0 (spoken k a.number) w later → w ≤ page_room → (a.number ≡ 0 → ⊥)
-        → SteppedTo k first row out (led_to Over a.sheet w) later
-    first_shut p short n =
-        refused (over (first_record f.says)) (first_number f.says) (shut f.opens (λ y. n (number_is ∙ y))) (desk_is Over) number_is n p short
+  pub first_shut : {k w : ℕ} {out later : List ℕ} → Wrote out 0 (refusal k a.number) w later → w ≤ page_room → (a.number ≡ 0 → ⊥) → FirstTaken k row out Over w later
+  first_shut {k} p short n =
+      record {
+        state = over (first_record f.says);
+        said = refusal k (first_number f.says);
+        step = shut f.opens (λ y. n (number_is ∙ y));
+        is = refl;
+        laid = wrote_text (ap (refusal k) number_is) p;
+        short = short;
+      }
 
 -- a later line
 
 module _ {sheet : Sheet} {r : Record} (of : OfRecord sheet r) where
-  desk_kept : (stage : Stage) → ◌≡◌ {A = Desk} (record { stage = stage; sheet = sheet }) (record { stage = stage; sheet = sheet_of entries r })
-  desk_kept stage = ap (λ (s : Sheet). record { stage = stage; sheet = s }) of.is
-
   module _ {row : Row} {o : Order} (asked : RowAsks sheet.marks row o) where
     asks : {p : Order} → o ≡ p → RowAsks r.marks row p
     asks e = subst (RowAsks r.marks row) e (subst (λ (s : Sheet). RowAsks s.marks row o) of.is asked)
 
     module _ {k w : ℕ} {out later : List ℕ} where
       pub later_made : {c : Call} {f : Form} {a : Answer} → o ≡ Make c f → a ≡ did_of most_marks sheet c → Wrote out 0 (spoken k a.number) w later → w ≤ page_room
-          → SteppedTo k (going r) row out (led_to Going a.sheet w) later
+          → LaterTaken k r row out (Going a.sheet) w later
       later_made {c} {a = a} q e p short =
           let is : a ≡ record { number = number_of r c; sheet = sheet_of entries (after r c) } =
           e ∙ ap (λ (s : Sheet). did_of most_marks s c) of.is ∙ did_kept r of.good c in
-          answered (going (after r c)) (number_of r c) (made (asks q)) (ap (λ (x : Answer). record { stage = Going; sheet = x.sheet }) is)
+          answered (going (after r c)) (number_of r c) (made (asks q)) (ap (λ (x : Answer). Going x.sheet) is)
           (ap (λ (x : Answer). x.number) is) p short
 
-      pub later_unread : o ≡ Unreadable → Wrote out 0 (spoken k 10) w later → w ≤ page_room
-          → SteppedTo k (going r) row out (led_to Going sheet w) later
-      later_unread q p short = answered (going r) 10 (unread (asks q)) (desk_kept Going) refl p short
+      pub later_unread : o ≡ Unreadable → Wrote out 0 (spoken k 10) w later → w ≤ page_room → LaterTaken k r row out (Going sheet) w later
+      later_unread q p short = answered (going r) 10 (unread (asks q)) (ap Going of.is) refl p short
 
-      pub later_ended : o ≡ End → Printed r out 0 w later
-          → SteppedTo k (going r) row out (led_to Over sheet w) later
-      later_ended q p = record { state = over r; said = p.text; step = ended (asks q) p.result; is = desk_kept Over; laid = p.wrote; short = omega (arith, p.short) }
+      pub later_ended : o ≡ End → Printed r out 0 w later → LaterTaken k r row out Over w later
+      later_ended q p = record { state = over r; said = p.text; step = ended (asks q) p.result; is = refl; laid = p.wrote; short = omega (arith, p.short) }
 
 -- by the stage
 
-abbrev stage_no : Stage → ℕ
+sheet_held : Sheet → Desk → Sheet
+sheet_held other Opening = other
+sheet_held other (Going sheet) = sheet
+sheet_held other Over = other
+
+stage_no : Desk → ℕ
 stage_no Opening = 0
-stage_no Going = 1
+stage_no (Going sheet) = 1
 stage_no Over = 2
 
-pub of_record : {d : Desk} {s : State} → In d s → OfRecord d.sheet (record_in s)
-of_record i = record { good = i.good; is = ap (λ (x : Desk). x.sheet) i.is }
+other_stage : {Q : Type 0} {d e : Desk} → d ≡ e → (stage_no d ≡ stage_no e → ⊥) → Q
+other_stage q n = absurd (n (ap stage_no q))
 
-pub other_stage : {P : Type 0} {d : Desk} {s : State} {t : Stage} → In d s → d.stage ≡ t → (stage_no (stage_in s) ≡ stage_no t → ⊥) → P
-other_stage i q n = absurd (n (ap (λ (x : Desk). stage_no x.stage) (sym i.is) ∙ ap stage_no q))
+-- a desk that goes on holds the sheet of its state's record
+pub of_record : {d : Desk} {sheet : Sheet} → d ≡ Going sheet → (s : State) → In d s → (r : Record) × (s ≡ going r) × OfRecord sheet r
+unfolding sheet_held stage_no
+of_record {sheet = sheet} q (going r) i = (r, refl, record { good = i.can; is = ap (sheet_held sheet) (sym q ∙ i.is) })
+of_record q first i = other_stage (sym q ∙ i.is) (λ z. omega arith)
+of_record q (over r) i = other_stage (sym q ∙ i.is) (λ z. omega arith)
 
-module _ {d : Desk} {k : ℕ} {row : Row} {out later : List ℕ} {t : Stepped} where
-  pub step_first : (s : State) → In d s → d.stage ≡ Opening → SteppedTo k first row out t later → SteppedTo k s row out t later
-  step_first first i q e = e
-  step_first (going r) i q e = other_stage i q (λ z. omega arith)
-  step_first (over r) i q e = other_stage i q (λ z. omega arith)
+pub sheet_of_record : {d : Desk} {sheet : Sheet} → d ≡ Going sheet → Runs kind d → SheetOfRecord sheet
+sheet_of_record q runs = let w = of_record q runs.0 runs.1 in (w.0, w.2)
 
-  pub step_later : (s : State) → In d s → d.stage ≡ Going → ((r : Record) → OfRecord d.sheet r → SteppedTo k (going r) row out t later)
-      → SteppedTo k s row out t later
-  step_later (going r) i q e = e r (of_record i)
-  step_later first i q e = other_stage i q (λ z. omega arith)
-  step_later (over r) i q e = other_stage i q (λ z. omega arith)
+module _ {d after : Desk} {k w : ℕ} {row : Row} {out later : List ℕ} where
+  taken : (s : State) → In d s → SteppedBy holdings desk_of k s row out after w later → Taken kind k s row out after w later
+  taken s i e = record { by = e; can = good_step e.step i.can }
 
-pub step_over : {d : Desk} {k : ℕ} {row : Row} {out : List ℕ} (s : State) → In d s → d.stage ≡ Over
-    → SteppedTo k s row out (record { desk = d; wrote = 0 }) out
-step_over {out = out} (over r) i q = record { state = over r; said = []; step = Step.silent; is = i.is; laid = wrote_none out 0; short = omega arith }
-step_over first i q = other_stage i q (λ z. omega arith)
-step_over (going r) i q = other_stage i q (λ z. omega arith)
+  pub step_opening : d ≡ Opening → FirstTaken k row out after w later → Steps kind d k row out after w later
+  unfolding stage_no
+  step_opening q e first i = taken first i e
+  step_opening q e (going r) i = other_stage (sym q ∙ i.is) (λ z. omega arith)
+  step_opening q e (over r) i = other_stage (sym q ∙ i.is) (λ z. omega arith)
+
+  pub step_going : {sheet : Sheet} → d ≡ Going sheet → ((r : Record) → OfRecord sheet r → LaterTaken k r row out after w later) → Steps kind d k row out after w later
+  step_going q e s i =
+      let at = of_record q s i in taken s i (subst (λ (t : State). SteppedBy holdings desk_of k t row out after w later) (sym at.1) (e at.0 at.2))
+
+pub step_over : {d : Desk} {k : ℕ} {row : Row} {out : List ℕ} → d ≡ Over → Steps kind d k row out d 0 out
+unfolding stage_no
+step_over {out = out} q (over r) i =
+    taken (over r) i (record { state = over r; said = []; step = Step.silent; is = i.is; laid = wrote_none out 0; short = omega arith })
+step_over q first i = other_stage (sym q ∙ i.is) (λ z. omega arith)
+step_over q (going r) i = other_stage (sym q ∙ i.is) (λ z. omega arith)
+
+pub silent : SilentWhenOver kind
+silent first e = clash e refl
+silent (going r) e = clash e refl
+silent (over r) e = record { step = λ n row. (over r, Step.silent, refl); stop = Stop.silent }
 
 -- the end of the input
 
 module _ {d : Desk} {out : List ℕ} {at : ℕ} where
-  pub stop_first : (s : State) → In d s → d.stage ≡ Opening → StoppedBy holdings s out at at out
-  stop_first first i q = record { said = []; stop = Stop.empty; laid = wrote_none out at }
-  stop_first (going r) i q = other_stage i q (λ z. omega arith)
-  stop_first (over r) i q = other_stage i q (λ z. omega arith)
+  pub stop_opening : d ≡ Opening → Stops kind d out at at out
+  unfolding stage_no
+  stop_opening q first i = record { said = []; stop = Stop.empty; laid = wrote_none out at }
+  stop_opening q (going r) i = other_stage (sym q ∙ i.is) (λ z. omega arith)
+  stop_opening q (over r) i = other_stage (sym q ∙ i.is) (λ z. omega arith)
 
-  pub stop_going : {later : List ℕ} {w : ℕ} (s : State) → In d s → d.stage ≡ Going → ((r : Record) → OfRecord d.sheet r → Printed r out at w later)
-      → StoppedBy holdings s out at w later
-  stop_going (going r) i q p = let t = p r (of_record i) in record { said = t.text; stop = Stop.result t.result; laid = t.wrote }
-  stop_going first i q p = other_stage i q (λ z. omega arith)
-  stop_going (over r) i q p = other_stage i q (λ z. omega arith)
+  pub stop_going : {later : List ℕ} {w : ℕ} {sheet : Sheet} → d ≡ Going sheet → ((r : Record) → OfRecord sheet r → Printed r out at w later)
+      → Stops kind d out at w later
+  stop_going {later} {w = n} q p s i =
+      let w = of_record q s i in
+      let t = p w.0 w.2 in
+      subst (λ (x : State). StoppedBy holdings x out at n later) (sym w.1) (record { said = t.text; stop = Stop.result t.result; laid = t.wrote })
 
-  pub stop_over : (s : State) → In d s → d.stage ≡ Over → StoppedBy holdings s out at at out
-  stop_over (over r) i q = record { said = []; stop = Stop.silent; laid = wrote_none out at }
-  stop_over first i q = other_stage i q (λ z. omega arith)
-  stop_over (going r) i q = other_stage i q (λ z. omega arith)
+  pub stop_over : d ≡ Over → Stops kind d out at at out
+  unfolding stage_no
+  stop_over q (over r) i = record { said = []; stop = Stop.silent; laid = wrote_none out at }
+  stop_over q first i = other_stage (sym q ∙ i.is) (λ z. omega arith)
+  stop_over q (going r) i = other_stage (sym q ∙ i.is) (λ z. omega arith)
 
 -- NO TWO RETURNS of `step` and of `stop`
 

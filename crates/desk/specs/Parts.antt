@@ -10,9 +10,10 @@ use Rattle.histories.specs.Histories.{Good}
 use Rattle.machine.specs.Rows.{Row}
 use Rattle.lines.specs.declared.First.{First}
 use Rattle.lines.specs.Words.{RowOpens}
-use Rattle.desk.specs.Prints.{Result, first_number, first_record}
-use Rattle.desk.specs.declared.stages.Stage.{Stage}
-use Rattle.desk.specs.declared.stages.Stepped.{Stepped}
+use Rattle.machine.specs.Steps.{SteppedBy}
+use Rattle.desk.specs.Prints.{Result, first_number, first_record, first, going, holdings}
+use Rattle.desk.specs.States.{desk_of}
+use Rattle.desk.specs.declared.stages.Desk.{Desk}
 
 -- a sheet that was worked out afresh from this record
 pub record OfRecord (sheet : Sheet) (r : Record) : Type 0 where
@@ -22,14 +23,18 @@ pub record OfRecord (sheet : Sheet) (r : Record) : Type 0 where
 abbrev pub SheetOfRecord : Sheet → Type 0
 SheetOfRecord sheet = (r : Record) × OfRecord sheet r
 
-abbrev pub led_to : Stage → Sheet → ℕ → Stepped
-led_to stage sheet wrote = record { desk = record { stage = stage; sheet = sheet }; wrote = wrote }
-
 -- what line 1 is answered, and the sheet that it opens
 pub record FirstAnswered (row : Row) (a : Answer) : Type 0 where
   pub says : First
   pub opens : RowOpens row says
   pub is : a ≡ record { number = first_number says; sheet = sheet_of entries (first_record says) }
+
+-- line k was taken as line 1, and as a later line
+abbrev pub FirstTaken : ℕ → Row → List ℕ → Desk → ℕ → List ℕ → Type 0
+FirstTaken k row out after wrote later = SteppedBy holdings desk_of k first row out after wrote later
+
+abbrev pub LaterTaken : ℕ → Record → Row → List ℕ → Desk → ℕ → List ℕ → Type 0
+LaterTaken k r row out after wrote later = SteppedBy holdings desk_of k (going r) row out after wrote later
 
 -- room for the two lines in front of the list, for a line with a time, and for the result
 abbrev pub heads_room : ℕ

@@ -4,4 +4,4 @@
 mod page;
 mod stages;
 
-pub use stages::{Desk, Stage, Stepped, first_answer, step, stop};
+pub use stages::{Desk, first_answer};

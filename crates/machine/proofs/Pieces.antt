@@ -35,7 +35,7 @@ data Yet (M : Machine) : Position M → List ℕ → List ℕ → Type 0 where
 
 module _ {M : Machine} where
   -- bytes taken in two goes
-  takes_then : {p q r : Position M} {a b x y : List ℕ} → Takes M p a q x → Takes M q b r y → Takes M p (a ++ b) r (x ++ y)
+  pub takes_then : {p q r : Position M} {a b x y : List ℕ} → Takes M p a q x → Takes M q b r y → Takes M p (a ++ b) r (x ++ y)
   takes_then none q = q
   takes_then (byte n p) q = byte n (takes_then p q)
   takes_then {p} {r = r} {b = b} {y = y} (newline {rest = rest} {now = now} {later = later} e t) q =
@@ -74,12 +74,12 @@ prompt M a said rest text p y = onward (yet_takes p (yet y))
 
 -- one call on a piece
 
-up_to-le : (l : List ℕ) → up_to_newline l ≤ length l
+pub up_to-le : (l : List ℕ) → up_to_newline l ≤ length l
 unfolding up_to_newline
 up_to-le [] = omega arith
 up_to-le (b ∷ l) = if (eqb b 10) (λ e. rw e (omega arith)) (λ e. rw e (omega (arith, up_to-le l)))
 
-up_to_pos : (l : List ℕ) → 0 < length l → 0 < up_to_newline l
+pub up_to_pos : (l : List ℕ) → 0 < length l → 0 < up_to_newline l
 unfolding up_to_newline
 up_to_pos [] h = absurd (omega arith)
 up_to_pos (b ∷ l) h = if (eqb b 10) (λ e. rw e (omega arith)) (λ e. rw e (omega arith))

@@ -5,3 +5,4 @@ pub mod Pieces
 pub mod Steps
 pub mod AtHand
 pub mod Heard
+pub mod Programs

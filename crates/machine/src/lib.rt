@@ -2,7 +2,9 @@
 #![tactic(auto)]
 
 mod line;
+mod program;
 mod refusals;
 
 pub use line::{Cut, Line};
+pub use program::Program;
 pub use refusals::{put_pair, refusal, spoken};

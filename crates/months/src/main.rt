@@ -1,11 +1,11 @@
 // The year program.
 #![tactic(auto)]
 
-use sessions::Kind;
+use year::Year;
 use std::process::ExitCode;
 
 fn main(rt: HostRuntime) -> ExitCode {
-    match console::run(Kind::Months, &mut rt.stdin(), &mut rt.stdout()) {
+    match console::run::<_, _, Year>(&mut rt.stdin(), &mut rt.stdout()) {
         Ok(()) => ExitCode::SUCCESS,
         Err(e) => {
             let _ = eprintln!(rt; "months: {e}");

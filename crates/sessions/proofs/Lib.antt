@@ -1,2 +1,2 @@
-pub mod Programs
 pub mod Sessions
+pub mod Outputs

@@ -1,126 +1,133 @@
 -- The session of a position: its line at hand is what has come of the line, and a call takes it from one position to the next.
-use Prim.Native.Nat.{ℕ, ◌+◌, ◌-◌, ◌≤◌}
-use mathlib.Core.Path.{◌≡◌, sym, ap, ap₂, ◌∙◌}
+use Prim.Native.Nat.{ℕ, ◌+◌, ◌≤◌, ◌<◌}
+use mathlib.Core.Path.{◌≡◌, sym, ap, ap₂, ◌∙◌, subst}
 use mathlib.Core.Bool.{true, false}
 use mathlib.Core.List.{List, [], ◌++◌}
 use native.Mathlib.Omega.{arith}
-use lib.ListN.{length, take, drop}
-use Rattle.machine.specs.Pieces.{Position, in-line, start, line_in, none, FinishedBy}
+use lib.ListN.{length, take}
+use Rattle.machine.specs.Answers.{OneAnswer}
+use Rattle.machine.specs.Pieces.{Position, in-line, start, line_in, Takes, none, FinishedBy}
+use Rattle.machine.specs.Programs.{Kind, In, Runs, Steps, Stops}
 use Rattle.machine.specs.Steps.{page_room}
 use Rattle.machine.specs.AtHand.{row_of, empty, typed, is_none, LineFits, line_cut_off, cut_of}
 use Rattle.machine.specs.declared.line.Line.{Line}
 use Rattle.machine.specs.declared.line.Cut.{Cut}
 use Rattle.machine.proofs.AtHand.{typed_none, typed_fits, typed_number}
-use Rattle.machine.proofs.Pieces.{cut_grown, fed_quiet, fed_line, finish_none, finish_line, takes_number, takes_rest}
-use Rattle.machine.proofs.Outputs.{fed_one, finished_one, takes-kept}
-use Rattle.sessions.specs.Programs.{machine_of, Can, In, Runs, Steps, Stops}
-use Rattle.sessions.specs.Sessions.{session_of, At, FedTo, Took}
-use Rattle.sessions.specs.declared.program.Kind.{Kind}
-use Rattle.sessions.specs.declared.program.Program.{Program}
-use Rattle.sessions.specs.declared.program.Stepped.{Stepped}
-use Rattle.sessions.specs.declared.session.Session.{Session}
-use Rattle.sessions.specs.declared.session.Fed.{Fed}
-use Rattle.sessions.proofs.Programs.{answers, can_step}
+use Rattle.machine.proofs.Pieces.{takes_then, up_to-le, up_to_pos, cut_grown, fed_quiet, fed_line, finish_none, finish_line, takes_number}
+use Rattle.machine.proofs.Outputs.{fed_one, finished_one}
+use Rattle.sessions.specs.Sessions.{session_of, At, Feeds, FedTo, Took}
+use Rattle.sessions.specs.declared.Session.{Session}
+use Rattle.sessions.specs.declared.Fed.{Fed}
 
-session_is : {l m : Line} {p q : Program} → l ≡ m → p ≡ q → ◌≡◌ {A = Session} (record { line = l; program = p }) (record { line = m; program = q })
-session_is e f = ap₂ (λ (l : Line) (p : Program). record { line = l; program = p }) e f
+module _ {P : Type 0} (k : Kind P) where
+  session_is : {l m : Line} {p q : P} → l ≡ m → p ≡ q → ◌≡◌ {A = Session P} (record { line = l; program = p }) (record { line = m; program = q })
+  session_is e f = ap₂ (λ (l : Line) (p : P). record { line = l; program = p }) e f
 
-pub at_start : (k : Kind) {l : Line} {p : Program} → l ≡ empty 1 → In k p (machine_of k).start → At k (record { line = l; program = p }) (start (machine_of k))
-at_start k e i = record { is = session_is (e ∙ typed_none 1) i.is; can = i.can }
+  pub at_start : {l : Line} {p : P} → l ≡ empty 1 → In k p k.machine.start → At k (record { line = l; program = p }) (start k.machine)
+  at_start e i = record { is = session_is (e ∙ typed_none 1) i.is; can = i.can }
 
--- what is known of a session that stands somewhere
+  -- what is known of a session that stands somewhere
 
-module _ (k : Kind) {d : Session} where
-  at_line : {n : ℕ} {s : (machine_of k).State} {begun : List ℕ} → At k d (in-line n s begun) → d.line ≡ typed n begun
-  at_line a = ap (λ (x : Session). x.line) a.is
+  module _ {d : Session P} where
+    at_line : {n : ℕ} {s : k.machine.State} {begun : List ℕ} → At k d (in-line n s begun) → d.line ≡ typed n begun
+    at_line a = ap (λ (x : Session P). x.line) a.is
 
-  at_in : {n : ℕ} {s : (machine_of k).State} {begun : List ℕ} → At k d (in-line n s begun) → In k d.program s
-  at_in a = record { is = ap (λ (x : Session). x.program) a.is; can = a.can }
+    at_in : {n : ℕ} {s : k.machine.State} {begun : List ℕ} → At k d (in-line n s begun) → In k d.program s
+    at_in a = record { is = ap (λ (x : Session P). x.program) a.is; can = a.can }
 
-  pub at_fits : (p : Position (machine_of k)) → At k d p → LineFits d.line
-  at_fits (in-line n s begun) a = typed_fits n begun (at_line a)
+    pub at_fits : (p : Position k.machine) → At k d p → LineFits d.line
+    at_fits (in-line n s begun) a = typed_fits n begun (at_line a)
 
-  pub at_runs : (p : Position (machine_of k)) → At k d p → Runs d.program
-  at_runs (in-line n s begun) a = (k, s, at_in a)
+    pub at_runs : (p : Position k.machine) → At k d p → Runs k d.program
+    at_runs (in-line n s begun) a = (s, at_in a)
 
-  pub at_number : (p : Position (machine_of k)) → At k d p → d.line.number ≡ line_in p
-  at_number (in-line n s begun) a = typed_number n begun (at_line a)
+    pub at_number : (p : Position k.machine) → At k d p → d.line.number ≡ line_in p
+    at_number (in-line n s begun) a = typed_number n begun (at_line a)
 
-  -- a piece that was cut
+    -- a piece that was cut
 
-  module _ (piece : List ℕ) {c : Cut} (is : c ≡ cut_of d.line piece) where
-    pub cut_fits : (p : Position (machine_of k)) → At k d p → LineFits c.line
-    cut_fits (in-line n s begun) a = let g = cut_grown (machine_of k) n s begun piece (at_line a) is in typed_fits n g.whole g.line
+    module _ (piece : List ℕ) {c : Cut} (is : c ≡ cut_of d.line piece) where
+      pub cut_fits : (p : Position k.machine) → At k d p → LineFits c.line
+      cut_fits (in-line n s begun) a = let g = cut_grown k.machine n s begun piece (at_line a) is in typed_fits n g.whole g.line
 
-    pub cut_number : (p : Position (machine_of k)) → At k d p → c.line.number ≡ d.line.number
-    cut_number (in-line n s begun) a =
-        let g = cut_grown (machine_of k) n s begun piece (at_line a) is in typed_number n g.whole g.line ∙ sym (typed_number n begun (at_line a))
+      pub cut_number : (p : Position k.machine) → At k d p → c.line.number ≡ d.line.number
+      cut_number (in-line n s begun) a =
+          let g = cut_grown k.machine n s begun piece (at_line a) is in typed_number n g.whole g.line ∙ sym (typed_number n begun (at_line a))
 
-    pub feed_quiet : (p : Position (machine_of k)) (out : List ℕ) → At k d p → c.ended ≡ false
-        → FedTo k p piece out (record { session = record { line = c.line; program = d.program }; used = c.used; wrote = 0 }) out
-    feed_quiet (in-line n s begun) out a e =
-        let g = cut_grown (machine_of k) n s begun piece (at_line a) is in
-        record { position = in-line n s g.whole; fed = fed_quiet g out e; session = session_is g.line (at_in a).is }
+      pub feed_quiet : (out : List ℕ) → c.ended ≡ false → Feeds k d piece out (record { line = c.line; program = d.program }) (record { used = c.used; wrote = 0 }) out
+      feed_quiet out e (in-line n s begun) a =
+          let g = cut_grown k.machine n s begun piece (at_line a) is in record {
+            position = in-line n s g.whole;
+            fed = fed_quiet g out e;
+            session = record { is = session_is g.line (at_in a).is; can = a.can };
+          }
 
-    pub feed_line : (p : Position (machine_of k)) {out later : List ℕ} {t : Stepped} {next : Line} → At k d p → c.ended ≡ true
-        → Steps d.program c.line.number (row_of c.line) out t later → next ≡ empty (c.line.number + 1)
-        → FedTo k p piece out (record { session = record { line = next; program = t.program }; used = c.used; wrote = t.wrote }) later
-    feed_line (in-line n s begun) a e steps q =
-        let g = cut_grown (machine_of k) n s begun piece (at_line a) is in
-        let w = steps k s (at_in a) in
-        record {
-          position = in-line (n + 1) w.state [];
-          fed = fed_line g e w;
-          session = session_is (q ∙ ap (λ (x : ℕ). empty (x + 1)) (typed_number n g.whole g.line) ∙ typed_none (n + 1)) w.is;
-        }
+      pub feed_line : {out later : List ℕ} {after : P} {w : ℕ} {next : Line} → c.ended ≡ true
+          → Steps k d.program c.line.number (row_of c.line) out after w later → next ≡ empty (c.line.number + 1)
+          → Feeds k d piece out (record { line = next; program = after }) (record { used = c.used; wrote = w }) later
+      feed_line e steps q (in-line n s begun) a =
+          let g = cut_grown k.machine n s begun piece (at_line a) is in
+          let w = steps s (at_in a) in
+          record {
+            position = in-line (n + 1) w.by.state [];
+            fed = fed_line g e w.by;
+            session = record {
+              is = session_is (q ∙ ap (λ (x : ℕ). empty (x + 1)) (typed_number n g.whole g.line) ∙ typed_none (n + 1)) w.by.is;
+              can = w.can;
+            };
+          }
 
-  -- the end of the input
+    -- the end of the input
 
-  pub finish_quiet : (p : Position (machine_of k)) {out later : List ℕ} {w : ℕ} → At k d p → is_none (row_of d.line) ≡ true → Stops d.program out 0 w later
-      → FinishedBy (machine_of k) p out w later
-  finish_quiet (in-line n s begun) a e stops = finish_none begun (at_line a) e (stops k s (at_in a))
+    pub finish_quiet : (p : Position k.machine) {out later : List ℕ} {w : ℕ} → At k d p → is_none (row_of d.line) ≡ true → Stops k d.program out 0 w later
+        → FinishedBy k.machine p out w later
+    finish_quiet (in-line n s begun) a e stops = finish_none begun (at_line a) e (stops s (at_in a))
 
-  module _ {m : Line} (is : m ≡ line_cut_off d.line) {out o : List ℕ} {t : Stepped} (steps : Steps d.program m.number (row_of m) out t o) where
-    -- where the last line leads
-    last_in : {n : ℕ} {begun : List ℕ} (s : (machine_of k).State) (a : At k d (in-line n s begun)) → In k t.program (steps k s (at_in a)).state
-    last_in s a = let w = steps k s (at_in a) in record { is = w.is; can = can_step k m.number s w.state (row_of m) w.said w.step a.can }
+    module _ {m : Line} (is : m ≡ line_cut_off d.line) {out o : List ℕ} {t : P} {v : ℕ} (steps : Steps k d.program m.number (row_of m) out t v o) where
+      -- where the last line leads
+      last_in : {n : ℕ} {begun : List ℕ} (s : k.machine.State) (a : At k d (in-line n s begun)) → In k t (steps s (at_in a)).by.state
+      last_in s a = let w = steps s (at_in a) in record { is = w.by.is; can = w.can }
 
-    pub last_runs : (p : Position (machine_of k)) → At k d p → Runs t.program
-    last_runs (in-line n s begun) a = (k, (steps k s (at_in a)).state, last_in s a)
+      pub finish_last : (p : Position k.machine) {later : List ℕ} {w : ℕ} → At k d p → is_none (row_of d.line) ≡ false → length o ≡ length out
+          → Stops k t o v w later → length later ≡ length out → FinishedBy k.machine p out w later
+      finish_last (in-line n s begun) a e f stops g =
+          finish_line begun (at_line a) e is (steps s (at_in a)).by f (stops (steps s (at_in a)).by.state (last_in s a)) g
 
-    pub last_short : (p : Position (machine_of k)) → At k d p → t.wrote ≤ page_room
-    last_short (in-line n s begun) a = (steps k s (at_in a)).short
+  -- for a caller that goes on with the session behind it
 
-    pub finish_last : (p : Position (machine_of k)) {later : List ℕ} {w : ℕ} → At k d p → is_none (row_of d.line) ≡ false → length o ≡ length out
-        → Stops t.program o t.wrote w later → length later ≡ length out → FinishedBy (machine_of k) p out w later
-    finish_last (in-line n s begun) a e f stops g =
-        finish_line begun (at_line a) e is (steps k s (at_in a)) f (stops k (steps k s (at_in a)).state (last_in s a)) g
+  module _ {p : Position k.machine} where
+    unfoldable pub took_none : {s : Session P} → At k s p → Took k p [] s
+    took_none a = record { position = p; said = []; takes = none; at = a }
 
--- for a caller that goes on with the session behind it
+    pub took_number : {bytes : List ℕ} {s t : Session P} → At k s p → Took k p bytes t → t.line.number ≤ s.line.number + length bytes
+    took_number a w = omega (arith, at_number p a, at_number w.position w.at, takes_number w.takes)
 
-module _ (k : Kind) {p : Position (machine_of k)} where
-  pub took_none : {s : Session} → At k s p → Took k p [] s
-  took_none a = record { position = p; said = []; takes = none; at = a }
+    module _ {bytes rest : List ℕ} {s t : Session P} (w : Took k p bytes s) where
+      -- a call more on what follows
+      unfoldable pub took_fed : {out later : List ℕ} {r : Fed} → FedTo k w.position rest out t r later → Took k p (bytes ++ take r.used rest) t
+      took_fed {r = r} f = record {
+        position = f.position;
+        said = w.said ++ f.fed.said;
+        takes = takes_then w.takes (subst (λ (n : ℕ). Takes k.machine w.position (take n rest) f.position f.fed.said) (sym f.fed.used) f.fed.takes);
+        at = f.session;
+      }
 
-  pub took_number : {bytes : List ℕ} {s t : Session} → At k s p → Took k p bytes t → t.line.number ≤ s.line.number + length bytes
-  took_number a w = omega (arith, at_number k p a, at_number k w.position w.at, takes_number w.takes)
+      unfoldable pub took_then : Took k w.position rest t → Took k p (bytes ++ rest) t
+      took_then v = record { position = v.position; said = w.said ++ v.said; takes = takes_then w.takes v.takes; at = v.at }
 
-  pub took_more : (piece : List ℕ) (at : ℕ) {s : Session} {out later : List ℕ} {r : Fed} (w : Took k p (take at piece) s)
-      → FedTo k w.position (take (length piece - at) (drop at piece)) out r later → Took k p (take (at + r.used) piece) r.session
-  took_more piece at w f = record {
-    position = f.position;
-    said = w.said ++ f.fed.said;
-    takes = takes_rest piece at f.fed w.takes;
-    at = record { is = f.session; can = takes-kept (Can k) (can_step k) f.fed.takes w.at.can };
-  }
+      pub fed_some : {out later : List ℕ} {r : Fed} → FedTo k w.position rest out t r later → 0 < length rest → 0 < r.used
+      fed_some f h = omega (arith, f.fed.used, up_to_pos rest h)
 
--- NO TWO RETURNS of `feed` and of `finish`
+      pub fed_within : {out later : List ℕ} {r : Fed} → FedTo k w.position rest out t r later → r.used ≤ length rest
+      fed_within f = omega (arith, f.fed.used, up_to-le rest)
 
-module _ (k : Kind) {p : Position (machine_of k)} {out o₁ o₂ : List ℕ} where
-  pub feed_settled : {piece : List ℕ} {r q : Fed} → FedTo k p piece out r o₁ → FedTo k p piece out q o₂ → (r ≡ q) × (o₁ ≡ o₂)
-  feed_settled f g =
-      let t = fed_one (answers k) f.fed g.fed in
-      ((λ i. record { session = (f.session ∙ ap (session_of k) t.0 ∙ sym g.session) i; used = t.1 i; wrote = t.2 i }), t.3)
+  -- NO TWO RETURNS of `feed` and of `finish`, where a line in a state has one answer (`Program::one_answer`)
 
-  pub finish_settled : {r q : ℕ} → FinishedBy (machine_of k) p out r o₁ → FinishedBy (machine_of k) p out q o₂ → (r ≡ q) × (o₁ ≡ o₂)
-  finish_settled f g = finished_one (answers k) f g
+  module _ (one : OneAnswer k.machine) {p : Position k.machine} {out o₁ o₂ : List ℕ} where
+    pub feed_settled : {piece : List ℕ} {s t : Session P} {r q : Fed} → FedTo k p piece out s r o₁ → FedTo k p piece out t q o₂ → (s ≡ t) × (r ≡ q) × (o₁ ≡ o₂)
+    feed_settled f g =
+        let t = fed_one one f.fed g.fed in
+        (f.session.is ∙ ap (session_of k) t.0 ∙ sym g.session.is, λ i. record { used = t.1 i; wrote = t.2 i }, t.3)
+
+    pub finish_settled : {r q : ℕ} → FinishedBy k.machine p out r o₁ → FinishedBy k.machine p out q o₂ → (r ≡ q) × (o₁ ≡ o₂)
+    finish_settled f g = finished_one one f g

@@ -1,10 +1,10 @@
--- The turns left leave room for the lines of each.
-use Prim.Native.Nat.{◌+◌, ◌*◌, ◌^◌, ◌<◌}
-use Rattle.sessions.specs.Sessions.{Stands}
+-- What was read is taken, and what it prints is written; a read brings at most as many lines as bytes.
+use Rattle.std.proofs.Common.{◌≤◌, ◌+◌, ◌*◌}
+use Rattle.console.specs.Serves.{Runs}
 use Rattle.console.proofs.run.Given as goal
 
-abbrev pub invariant-loop-turns : goal.invariant-loop-turns
-invariant-loop-turns g l = Stands l.session × (l.session.line.number + l.turns * 4096 < 2 ^ 63)
-
-abbrev pub decreases-loop-turns : goal.decreases-loop-turns
-decreases-loop-turns g l = l.turns
+abbrev pub invariant-loop-turn : goal.invariant-loop-turn
+invariant-loop-turn g l =
+    let left = g.R.Read.remaining in
+    let held = g.W.Write.contents in
+    (l.session.line.number ≤ 1 + l.turn * 4096) × Runs g.P.Program.kind l.session (left l.initial.input) (left l.input) (held l.initial.output) (held l.output)

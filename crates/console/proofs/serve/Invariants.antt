@@ -1,16 +1,16 @@
--- The first bytes of the piece are taken (`Took`); each call takes at least one more.
-use Prim.Native.Nat.{◌-◌, ◌≤◌}
-use mathlib.Core.Path.{◌≡◌}
-use lib.ListN.{length, take}
+-- What stands in front of the rest is taken, and what it prints is written; each call takes at least one byte more.
+use Rattle.std.proofs.Common.{◌≡◌, length, ◌++◌, List, ℕ}
 use Rattle.machine.specs.Pieces.{Position}
-use Rattle.sessions.specs.declared.program.Kind.{Kind}
-use Rattle.sessions.specs.Programs.{machine_of}
-use Rattle.sessions.specs.Sessions.{room, At, Took}
+use Rattle.sessions.specs.Sessions.{room, At}
+use Rattle.console.specs.Serves.{Passed}
 use Rattle.console.proofs.serve.Given as goal
 
-abbrev pub invariant-loop-at : goal.invariant-loop-at
-invariant-loop-at g l =
-    (l.at ≤ length l.piece) × (room ≡ length l.out) × ((k : Kind) (p : Position (machine_of k)) → At k l.fn.s p → Took k p (take l.at l.piece) l.session)
+abbrev pub invariant-loop-rest : goal.invariant-loop-rest
+invariant-loop-rest g l =
+    let k = g.P.Program.kind in
+    let contents = g.W.Write.contents in
+    (room ≡ length l.out) × (taken : List ℕ) × (l.piece ≡ taken ++ l.rest)
+        × ((p : Position k.machine) → At k l.initial.session p → Passed k p taken l.session (contents l.initial.output) (contents l.output))
 
-abbrev pub decreases-loop-at : goal.decreases-loop-at
-decreases-loop-at g l = length l.piece - l.at
+abbrev pub decreases-loop-rest : goal.decreases-loop-rest
+decreases-loop-rest g l = length l.rest
