@@ -45,3 +45,22 @@ numbered Profile = omega arith
 
 pub never_done : (e : Refusal) → number_of e ≡ 0 → ⊥
 never_done e z = omega (arith, numbered e)
+
+-- every number but 10 settles the refusal alone
+
+no_place : (e : Refusal) → (number_of e ≡ 10 → ⊥) → place_of e ≡ 0
+no_place Marks n = refl
+no_place Combination n = refl
+no_place Standing n = refl
+no_place Amount n = refl
+no_place Room n = refl
+no_place Spoiled n = refl
+no_place Above n = refl
+no_place Below n = refl
+no_place (Unreadable p) n = absurd (n refl)
+no_place Date n = refl
+no_place Either n = refl
+no_place Profile n = refl
+
+pub number_settles : (e f : Refusal) → (number_of e ≡ 10 → ⊥) → number_of e ≡ number_of f → e ≡ f
+number_settles e f n same = refusal_settled e f same (no_place e n ∙ sym (no_place f (λ ten. n (same ∙ ten))))
