@@ -1,5 +1,8 @@
 -- What the functions of the changes ask of each other's arguments.
-use Rattle.std.specs.Prelude.{ℕ, ◌^◌, ◌<◌, ◌≡◌, true}
+use Rattle.std.specs.Prelude.{ℕ, ◌^◌, ◌<◌, ◌≡◌, ◌≤◌, true, false, Result, Ok, Err}
+use Rattle.refusals.specs.Numbers.{number_of}
+use Rattle.refusals.specs.declared.Refusal.{Refusal}
+use Rattle.refusals.specs.declared.Refusal.TheVariants.{Spoiled, Combination}
 use Rattle.tables.specs.declared.Shift.TheVariants.{Stays}
 use Rattle.tables.specs.Parts.{AllBear}
 use Rattle.sheet.specs.Limits.{most_marks, marks_ok}
@@ -7,15 +10,22 @@ use Rattle.sheet.specs.Record.{Table, kept}
 use Rattle.sheet.specs.declared.Sheet.{Sheet}
 use Rattle.changes.specs.Calls.{shift_in}
 use Rattle.changes.specs.Promises.{SomeShift}
-use Rattle.changes.specs.declared.Call.{Call}
-use Rattle.changes.specs.declared.Call.TheVariants.{Change, Receive, Withdraw}
 use Rattle.changes.specs.declared.Move.{Move}
 
--- the amount of a call is a number of 32 bits
-abbrev pub SmallAmount : Call → Type 0
-SmallAmount (Change to c) = Unit {0}
-SmallAmount (Receive c d) = d < 2 ^ 32
-SmallAmount (Withdraw c d) = d < 2 ^ 32
+-- a result's number in 01's table: 0 when done
+abbrev pub number_in : {A : Type 0} → Result A Refusal → ℕ
+number_in (Ok _) = 0
+number_in (Err e) = number_of e
+
+-- a combination of the sheet: the first two tests of every call have passed
+pub record Known (s : Sheet) (c : ℕ) : Type 0 where
+  pub marks : marks_ok most_marks s.marks ≡ true
+  pub low : c < 2 ^ s.marks
+
+-- or one of them has not
+pub data Unknown (s : Sheet) (c : ℕ) : Refusal → Type 0 where
+  spoiled : marks_ok most_marks s.marks ≡ false → Unknown s c Spoiled
+  beyond : marks_ok most_marks s.marks ≡ true → 2 ^ s.marks ≤ c → Unknown s c Combination
 
 -- no entry of a table, a number of 32 bits, can be above this
 abbrev pub most_kept : ℕ
