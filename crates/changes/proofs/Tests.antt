@@ -198,10 +198,6 @@ pub amount_judged : (m c : ℕ) (more : Bool) (d : ℕ) (t : List ℕ) {r : Bool
     → r ≡ touched m c (fits_moved m (amount_shift more d) t (cond more most_held most_kept) 0) → r ≡ touched m c (fits_amount more d t)
 amount_judged m c more d t small e = e ∙ touched_ext m c _ _ (λ b h. amount_bounds m more d t b (small b))
 
-pub top_small : (more : Bool) → cond more most_held most_kept < 2 ^ 33
-top_small true = omega arith
-top_small false = omega arith
-
 -- a box of a sheet has at most 32 combinations
 pub size_fits : (m b : ℕ) → m ≤ 5 → 2 ^ free_count m b ≤ 32
 size_fits m b l =
