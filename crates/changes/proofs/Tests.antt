@@ -27,7 +27,7 @@ use Rattle.sheet.specs.declared.Sheet.{Sheet}
 use Rattle.sheet.proofs.Limits.{marks_most, amount_some}
 use Rattle.changes.specs.Calls.{amount_shift, amount_move, move_of, shift_in, fits_count, counts_fit, fits_amount, change_no, amount_no, number_on}
 use Rattle.changes.specs.Promises.{SomeShift}
-use Rattle.changes.specs.Parts.{most_kept, Accepted, Unknown}
+use Rattle.changes.specs.Parts.{most_after, has_room, Accepted, Unknown}
 use Rattle.refusals.specs.Numbers.{number_of}
 use Rattle.refusals.specs.declared.Refusal.{Refusal}
 use Rattle.changes.specs.declared.Call.{Call}
@@ -180,23 +180,30 @@ count_bounds m by t b =
     let top : 0 + 1 * 2 ^ free_count m b ≡ 2 ^ free_count m b = omega arith in
     ap (λ (z : ℕ). fits_shifted by z (entry t b)) top
 
-pub amount_bounds : (m : ℕ) (more : Bool) (d : ℕ) (t : List ℕ) (b : ℕ) → entry t b < 2 ^ 32
-    → fits_moved m (amount_shift more d) t (cond more most_held most_kept) 0 b ≡ fits_amount more d t b
-unfolding fits_amount
-amount_bounds m true d t b l =
+room_bounds : (m : ℕ) (by : Shift) (t : List ℕ) (b : ℕ) → entry t b < 2 ^ 32 → fits_moved m by t (most_after by) 0 b ≡ has_room by t b
+room_bounds m Stays t b l = le-leb (entry t b) (4294967295 + 0 * 2 ^ free_count m b) (omega (arith, zero-mul (2 ^ free_count m b)))
+room_bounds m (Up d) t b l =
     let top : most_held + 0 * 2 ^ free_count m b ≡ most_held = omega (arith, zero-mul (2 ^ free_count m b)) in
     ap (leb (entry t b + d)) top
-amount_bounds m false d t b l =
-    rw (le-leb (entry t b - d) (most_kept + 0 * 2 ^ free_count m b) (omega (arith, zero-mul (2 ^ free_count m b)))) (and-true (leb d (entry t b)))
+room_bounds m (Down d) t b l =
+    rw (le-leb (entry t b - d) (4294967295 + 0 * 2 ^ free_count m b) (omega (arith, zero-mul (2 ^ free_count m b)))) (and-true (leb d (entry t b)))
 
 -- so what the code answers of a table is what the definitions say
 
 pub count_judged : (m c : ℕ) (by : Shift) (t : List ℕ) {r : Bool} → r ≡ touched m c (fits_moved m by t 0 1) → r ≡ touched m c (fits_count m by t)
 count_judged m c by t e = e ∙ touched_ext m c _ _ (λ b h. count_bounds m by t b)
 
-pub amount_judged : (m c : ℕ) (more : Bool) (d : ℕ) (t : List ℕ) {r : Bool} → ((b : ℕ) → entry t b < 2 ^ 32)
-    → r ≡ touched m c (fits_moved m (amount_shift more d) t (cond more most_held most_kept) 0) → r ≡ touched m c (fits_amount more d t)
-amount_judged m c more d t small e = e ∙ touched_ext m c _ _ (λ b h. amount_bounds m more d t b (small b))
+pub room_judged : (m c : ℕ) (by : Shift) (t : List ℕ) {r : Bool} → ((b : ℕ) → entry t b < 2 ^ 32)
+    → r ≡ touched m c (fits_moved m by t (most_after by) 0) → r ≡ touched m c (has_room by t)
+room_judged m c by t small e = e ∙ touched_ext m c _ _ (λ b h. room_bounds m by t b (small b))
+
+amount_fits_by : (more : Bool) (d : ℕ) (t : List ℕ) (b : ℕ) → has_room (amount_shift more d) t b ≡ fits_amount more d t b
+unfolding fits_amount
+amount_fits_by true d t b = refl
+amount_fits_by false d t b = refl
+
+pub amount_judged : (m c : ℕ) (more : Bool) (d : ℕ) (t : List ℕ) → touched m c (has_room (amount_shift more d) t) ≡ touched m c (fits_amount more d t)
+amount_judged m c more d t = touched_ext m c _ _ (λ b h. amount_fits_by more d t b)
 
 -- a box of a sheet has at most 32 combinations
 pub size_fits : (m b : ℕ) → m ≤ 5 → 2 ^ free_count m b ≤ 32

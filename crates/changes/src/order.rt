@@ -8,14 +8,15 @@ ghost use Rattle.classes.specs.declared.Standing.TheVariants.{Either};
 ghost use Rattle.sheet.specs.Limits.{most_marks, entries, most_held, amount_ok};
 ghost use Rattle.sheet.specs.Sound.{own_in};
 ghost use Rattle.sheet.specs.Record.{outside_counts, either_counts, held_seconds};
-ghost use Rattle.changes.specs.Parts.{most_kept, Known, Unknown, number_in};
+ghost use Rattle.changes.specs.Parts.{counts_fit_after, has_room, most_after, Known, Unknown, number_in};
 ghost use Rattle.changes.specs.declared.Call.TheVariants.{Change};
-ghost use Rattle.changes.specs.Calls.{counts_fit, fits_amount, amount_move, move_of, change_no, amount_no, number_on};
+ghost use Rattle.changes.specs.Calls.{amount_move, move_of, change_no, amount_no, number_on};
 
 use crate::{Call, Move, moves};
 use classes::Standing;
 use refusals::Refusal;
 use sheet::Sheet;
+use tables::Shift;
 
 // A combination that a sheet has, and its own box.
 #[derive(Clone, Copy)]
@@ -36,27 +37,22 @@ fn amount_ok(d: u64) -> bool
     1 <= d && d <= Sheet::MOST_AMOUNT
 }
 
-// The most that an entry may then hold: a withdrawal is judged by 0 alone, and no entry is above this.
-fn most_after(more: bool) -> u64
-    ensures { result ≡ cond more most_held most_kept }
+// The most that an entry may hold after a shift of its seconds: a withdrawal is judged by 0 alone, and no entry is above this.
+fn most_after(by: Shift) -> u64
+    ensures { result ≡ most_after by }
 {
-    u64::from(if more { Sheet::MOST_HELD } else { u32::MAX })
+    u64::from(match by {
+        Shift::Up(_) => Sheet::MOST_HELD,
+        _ => u32::MAX,
+    })
 }
 
-// Whether each touched entry of a time table has room for so many seconds more, or less.
-fn has_room(m: usize, c: usize, held: &[u32], more: bool, d: u64) -> bool
-    requires over { Over m c held.now }
-    requires amount { amount_ok d ≡ true }
-    ensures { result ≡ touched m c (fits_amount more d held.now) }
+// Whether each touched entry of a time table has room for a shift of its seconds.
+fn has_room(m: usize, c: usize, held: &[u32], by: Shift) -> bool
+    requires { Over m c held.now }
+    ensures { result ≡ touched m c (has_room by held.now) }
 {
-    tables::fits_at(
-        m,
-        c,
-        moves::amount_shift(more, d),
-        held,
-        most_after(more),
-        0,
-    )
+    tables::fits_at(m, c, by, held, most_after(by), 0)
 }
 
 impl<'a> Combination<'a> {
@@ -106,18 +102,10 @@ impl<'a> Combination<'a> {
         }
     }
 
-    // What it comes to that the combination stands so.
-    fn change_move(&self, to: Standing) -> Move
-        ensures { result ≡ move_of self.now.sheet.now (Change to self.now.c) }
+    // Whether both counts of each touched box are those of a box after a move.
+    fn counts_fit(&self, v: &Move) -> bool
+        ensures { result ≡ counts_fit_after v.now self.now.sheet.now self.now.c }
     {
-        moves::change_move(self.outside(), self.either(), to, self.c)
-    }
-
-    // Whether both counts of each touched box fit after a change to a standing.
-    fn counts_fit(&self, to: Standing) -> bool
-        ensures { result ≡ counts_fit to self.now.sheet.now self.now.c }
-    {
-        let v = self.change_move(to);
         let m = self.sheet.marks;
         tables::fits_at(m, self.c, v.outside, &self.sheet.outside, 0, 1)
             && tables::fits_at(m, self.c, v.either, &self.sheet.either, 0, 1)
@@ -141,14 +129,15 @@ impl<'a> Combination<'a> {
         if self.holds_back(to) {
             return Err(Refusal::Either);
         }
-        if !self.counts_fit(to) {
+        let v = moves::change_move(self.outside(), self.either(), to, self.c);
+        if !self.counts_fit(&v) {
             return Err(Refusal::Spoiled);
         }
-        Ok(self.change_move(to))
+        Ok(v)
     }
 
     // A receipt or a withdrawal of d seconds.
-    #[tactic(auto, using(sheet::proofs::Limits::marks_most, sheet::proofs::Limits::amount_most, sheet::proofs::Over::boxes_within), unfolding(crate::specs::Calls::amount_no))]
+    #[tactic(auto, using(sheet::proofs::Limits::marks_most, sheet::proofs::Limits::amount_most, sheet::proofs::Over::boxes_within, crate::proofs::Tests::amount_judged), unfolding(crate::specs::Calls::amount_no))]
     fn amount(&self, more: bool, d: u64) -> Result<Move, Refusal>
         ensures number { number_in result ≡ amount_no most_marks more self.now.sheet.now self.now.c d }
         ensures comes_to { IfOk result (λ v. v ≡ amount_move more self.now.c d) }
@@ -159,10 +148,11 @@ impl<'a> Combination<'a> {
         if more && self.stands(Standing::Either) {
             return Err(Refusal::Either);
         }
-        if !has_room(self.sheet.marks, self.c, &self.sheet.held, more, d) {
+        let v = moves::amount_move(more, self.c, d);
+        if !has_room(self.sheet.marks, self.c, &self.sheet.held, v.held) {
             return Err(if more { Refusal::Above } else { Refusal::Below });
         }
-        Ok(moves::amount_move(more, self.c, d))
+        Ok(v)
     }
 }
 
