@@ -1,6 +1,6 @@
 -- The order of tests of each call: what is answered where the tests before have passed, and what the answer 0 tells.
 use Prim.Native.Nat.{ℕ, ◌+◌, ◌*◌, ◌-◌, ◌^◌, ◌<◌, ◌≤◌}
-use mathlib.Core.Path.{◌≡◌, sym, ◌∙◌, ap}
+use mathlib.Core.Path.{◌≡◌, refl, sym, ◌∙◌, ap}
 use mathlib.Core.Bool.{Bool, true, false, cond, ◌&&◌, and-true}
 use mathlib.Core.List.{List}
 use native.Mathlib.Nat.{pow-le-pow_right, zero-mul}
@@ -16,7 +16,7 @@ use Rattle.tables.specs.declared.Shift.TheVariants.{Stays, Up, Down}
 use Rattle.tables.specs.Tables.{entry, fits_shifted, touched}
 use Rattle.profiles.specs.Profiles.{settles}
 use Rattle.tables.specs.Parts.{Bears, AllBear, fits_moved}
-use Rattle.tables.proofs.Touched.{touched_at}
+use Rattle.tables.proofs.Touched.{touched_at, touched_ext}
 use Rattle.classes.specs.Standings.{is_either, outs, eithers, tells}
 use Rattle.classes.specs.declared.Standing.{Standing}
 use Rattle.classes.specs.declared.Standing.TheVariants.{Either}
@@ -24,13 +24,27 @@ use Rattle.sheet.specs.Limits.{marks_ok, amount_ok, most_held, most_marks}
 use Rattle.sheet.specs.Record.{Table, outside_counts, either_counts, held_seconds, kept}
 use Rattle.sheet.specs.Sound.{own_in}
 use Rattle.sheet.specs.declared.Sheet.{Sheet}
-use Rattle.sheet.proofs.Limits.{marks_most, amount_some, amount_most}
+use Rattle.sheet.proofs.Limits.{marks_most, amount_some}
 use Rattle.changes.specs.Calls.{amount_shift, amount_move, move_of, shift_in, fits_count, counts_fit, fits_amount, change_no, amount_no, number_on}
 use Rattle.changes.specs.Promises.{SomeShift}
-use Rattle.changes.specs.Parts.{most_kept, SmallAmount, Accepted}
+use Rattle.changes.specs.Parts.{most_after, has_room, Accepted, Unknown}
+use Rattle.refusals.specs.Numbers.{number_of}
+use Rattle.refusals.specs.declared.Refusal.{Refusal}
 use Rattle.changes.specs.declared.Call.{Call}
 use Rattle.changes.specs.declared.Call.TheVariants.{Change, Receive, Withdraw}
 use Rattle.changes.proofs.Between.{between_some, between_moves}
+
+-- the first two tests, of every call
+
+pub unknown_change : {s : Sheet} {c : ℕ} {e : Refusal} (to : Standing) → Unknown s c e → number_of e ≡ change_no most_marks to s c
+unfolding change_no
+unknown_change {s} {c} to (Unknown.spoiled e) = rw e refl
+unknown_change {s} {c} to (Unknown.beyond e l) = rw (e, le-leb (2 ^ s.marks) c l) refl
+
+pub unknown_amount : {s : Sheet} {c : ℕ} {e : Refusal} (more : Bool) (d : ℕ) → Unknown s c e → number_of e ≡ amount_no most_marks more s c d
+unfolding amount_no
+unknown_amount {s} {c} more d (Unknown.spoiled e) = rw e refl
+unknown_amount {s} {c} more d (Unknown.beyond e l) = rw (e, le-leb (2 ^ s.marks) c l) refl
 
 -- class changes
 
@@ -166,18 +180,30 @@ count_bounds m by t b =
     let top : 0 + 1 * 2 ^ free_count m b ≡ 2 ^ free_count m b = omega arith in
     ap (λ (z : ℕ). fits_shifted by z (entry t b)) top
 
-pub amount_bounds : (m : ℕ) (more : Bool) (d : ℕ) (t : List ℕ) (b : ℕ) → entry t b < 2 ^ 32
-    → fits_moved m (amount_shift more d) t (cond more most_held most_kept) 0 b ≡ fits_amount more d t b
-unfolding fits_amount
-amount_bounds m true d t b l =
+room_bounds : (m : ℕ) (by : Shift) (t : List ℕ) (b : ℕ) → entry t b < 2 ^ 32 → fits_moved m by t (most_after by) 0 b ≡ has_room by t b
+room_bounds m Stays t b l = le-leb (entry t b) (4294967295 + 0 * 2 ^ free_count m b) (omega (arith, zero-mul (2 ^ free_count m b)))
+room_bounds m (Up d) t b l =
     let top : most_held + 0 * 2 ^ free_count m b ≡ most_held = omega (arith, zero-mul (2 ^ free_count m b)) in
     ap (leb (entry t b + d)) top
-amount_bounds m false d t b l =
-    rw (le-leb (entry t b - d) (most_kept + 0 * 2 ^ free_count m b) (omega (arith, zero-mul (2 ^ free_count m b)))) (and-true (leb d (entry t b)))
+room_bounds m (Down d) t b l =
+    rw (le-leb (entry t b - d) (4294967295 + 0 * 2 ^ free_count m b) (omega (arith, zero-mul (2 ^ free_count m b)))) (and-true (leb d (entry t b)))
 
-pub top_small : (more : Bool) → cond more most_held most_kept < 2 ^ 33
-top_small true = omega arith
-top_small false = omega arith
+-- so what the code answers of a table is what the definitions say
+
+pub count_judged : (m c : ℕ) (by : Shift) (t : List ℕ) {r : Bool} → r ≡ touched m c (fits_moved m by t 0 1) → r ≡ touched m c (fits_count m by t)
+count_judged m c by t e = e ∙ touched_ext m c _ _ (λ b h. count_bounds m by t b)
+
+pub room_judged : (m c : ℕ) (by : Shift) (t : List ℕ) {r : Bool} → ((b : ℕ) → entry t b < 2 ^ 32)
+    → r ≡ touched m c (fits_moved m by t (most_after by) 0) → r ≡ touched m c (has_room by t)
+room_judged m c by t small e = e ∙ touched_ext m c _ _ (λ b h. room_bounds m by t b (small b))
+
+amount_fits_by : (more : Bool) (d : ℕ) (t : List ℕ) (b : ℕ) → has_room (amount_shift more d) t b ≡ fits_amount more d t b
+unfolding fits_amount
+amount_fits_by true d t b = refl
+amount_fits_by false d t b = refl
+
+pub amount_judged : (m c : ℕ) (more : Bool) (d : ℕ) (t : List ℕ) → touched m c (has_room (amount_shift more d) t) ≡ touched m c (fits_amount more d t)
+amount_judged m c more d t = touched_ext m c _ _ (λ b h. amount_fits_by more d t b)
 
 -- a box of a sheet has at most 32 combinations
 pub size_fits : (m b : ℕ) → m ≤ 5 → 2 ^ free_count m b ≤ 32
@@ -257,11 +283,3 @@ pub accepts : (s : Sheet) (k : Call) → number_on most_marks s k ≡ 0 → Acce
 accepts s (Change to c) z = change_accepted s to c (changes most_marks to s c z)
 accepts s (Receive c d) z = amount_accepted s true c d (amounts most_marks true s c d z)
 accepts s (Withdraw c d) z = amount_accepted s false c d (amounts most_marks false s c d z)
-
-small_amount : (s : Sheet) (more : Bool) (c d : ℕ) → amount_no most_marks more s c d ≡ 0 → d < 2 ^ 32
-small_amount s more c d z = omega (arith, amount_most d (amounts most_marks more s c d z).amount)
-
-pub accepts_small : (s : Sheet) (k : Call) → number_on most_marks s k ≡ 0 → SmallAmount k
-accepts_small s (Change to c) z = tt
-accepts_small s (Receive c d) z = small_amount s true c d z
-accepts_small s (Withdraw c d) z = small_amount s false c d z

@@ -13,7 +13,7 @@ use Rattle.sheet.specs.Limits.{marks_ok, amount_ok, most_held}
 use Rattle.sheet.specs.Record.{Table, outside_counts, either_counts, held_seconds, sheet_with}
 use Rattle.sheet.specs.Sound.{own_in}
 use Rattle.sheet.specs.declared.Sheet.{Sheet}
-use Rattle.sheet.specs.declared.Answer.{Answer}
+use Rattle.sheet.specs.Told.{Answer}
 use Rattle.changes.specs.declared.Call.{Call}
 use Rattle.changes.specs.declared.Call.TheVariants.{Change, Receive, Withdraw}
 use Rattle.changes.specs.declared.Move.{Move}

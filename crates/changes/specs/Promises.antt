@@ -6,7 +6,7 @@ use Rattle.tables.specs.Tables.{entry, Shifted}
 use Rattle.sheet.specs.Record.{Table, kept}
 use Rattle.sheet.specs.Entries.{Agree}
 use Rattle.sheet.specs.declared.Sheet.{Sheet}
-use Rattle.sheet.specs.declared.Answer.{Answer}
+use Rattle.sheet.specs.Told.{Answer}
 use Rattle.changes.specs.Calls.{shift_in}
 use Rattle.changes.specs.declared.Move.{Move}
 

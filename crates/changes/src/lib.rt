@@ -1,18 +1,20 @@
-// The calls that change a sheet. Every call takes any numbers and any sheet, spoiled ones included, and answers by a number of 01's table.
-#![tactic(auto)]
+// The calls that change a sheet. Every call takes any numbers and any sheet, spoiled ones included, and what it refuses is a row of 01's table.
+#![tactic(auto, using(sheet::proofs::Limits::marks_most, sheet::proofs::Limits::amount_most, sheet::proofs::Over::boxes_within))]
 
-ghost use Rattle.std.specs.Prelude.{◌≡◌};
+ghost use Rattle.std.specs.Prelude.{◌≡◌, OnErr};
 ghost use Rattle.classes.specs.declared.Standing.TheVariants.{In, Out, Either};
 ghost use Rattle.sheet.specs.Limits.{most_marks};
+ghost use Rattle.sheet.specs.Told.{answer_of};
 ghost use Rattle.changes.specs.Calls.{moved_sheet, did_of};
 ghost use Rattle.changes.specs.Parts.{Accepted};
 ghost use Rattle.changes.specs.declared.Call.TheVariants.{Change, Receive, Withdraw};
 
 mod moves;
-mod numbers;
+mod order;
 
 use classes::Standing;
-use sheet::{Answer, Sheet};
+use refusals::Refusal;
+use sheet::Sheet;
 use tables;
 use tables::Shift;
 
@@ -33,82 +35,65 @@ pub struct Move {
     pub held: Shift,
 }
 
-// The sheet with a move made in each table.
-fn moved(sheet: Sheet, v: Move) -> Sheet
-    requires { Accepted sheet v }
-    ensures { result ≡ moved_sheet v sheet }
-{
-    let m = sheet.marks;
-    let c = v.at;
-    let mut outside = sheet.outside;
-    let by = v.outside;
-    tables::move_at(m, c, by, &mut outside);
-    let mut either = sheet.either;
-    let more = v.either;
-    tables::move_at(m, c, more, &mut either);
-    let mut held = sheet.held;
-    let seconds = v.held;
-    tables::move_at(m, c, seconds, &mut held);
-    let profile = sheet.profile;
-    Sheet {
-        marks: m,
-        profile,
-        outside,
-        either,
-        held,
+impl Move {
+    // Makes the move in each table.
+    fn make(self, sheet: &mut Sheet)
+        requires { Accepted sheet.old self }
+        ensures { sheet.new ≡ moved_sheet self sheet.old }
+    {
+        let m = sheet.marks;
+        tables::move_at(m, self.at, self.outside, &mut sheet.outside);
+        tables::move_at(m, self.at, self.either, &mut sheet.either);
+        tables::move_at(m, self.at, self.held, &mut sheet.held);
     }
 }
 
-// Makes a call: its number, and the sheet that is left.
-pub fn did(sheet: Sheet, call: Call) -> Answer
-    ensures { result ≡ did_of most_marks sheet call }
+// Makes a call. A refused one leaves the sheet as it was.
+pub fn did(sheet: &mut Sheet, call: Call) -> Result<(), Refusal>
+    ensures answer { answer_of result sheet.new ≡ did_of most_marks sheet.old call }
+    ensures kept { OnErr result (sheet.new ≡ sheet.old) }
 {
-    let m = sheet.marks;
-    let outside = sheet.outside;
-    let either = sheet.either;
-    let held = sheet.held;
-    let profile = sheet.profile;
-    let number = numbers::of_call(m, profile, &outside, &either, &held, call);
-    if number != 0 {
-        return Answer { number, sheet };
-    }
-    Answer {
-        number: 0,
-        sheet: moved(sheet, moves::of_call(m, &outside, &either, call)),
-    }
+    let v = order::of_call(sheet, call)?;
+    v.make(sheet);
+    Ok(())
 }
 
 // Into the class.
-pub fn enter(sheet: Sheet, c: usize) -> Answer
-    ensures { result ≡ did_of most_marks sheet (Change In c) }
+pub fn enter(sheet: &mut Sheet, c: usize) -> Result<(), Refusal>
+    ensures answer { answer_of result sheet.new ≡ did_of most_marks sheet.old (Change In c) }
+    ensures kept { OnErr result (sheet.new ≡ sheet.old) }
 {
     did(sheet, Call::Change(Standing::In, c))
 }
 
 // Out of the class.
-pub fn leave(sheet: Sheet, c: usize) -> Answer
-    ensures { result ≡ did_of most_marks sheet (Change Out c) }
+pub fn leave(sheet: &mut Sheet, c: usize) -> Result<(), Refusal>
+    ensures answer { answer_of result sheet.new ≡ did_of most_marks sheet.old (Change Out c) }
+    ensures kept { OnErr result (sheet.new ≡ sheet.old) }
 {
     did(sheet, Call::Change(Standing::Out, c))
 }
 
 // Neither in the class nor out of it: no can could have the combination.
-pub fn make_either(sheet: Sheet, c: usize) -> Answer
-    ensures { result ≡ did_of most_marks sheet (Change Either c) }
+pub fn make_either(sheet: &mut Sheet, c: usize) -> Result<(), Refusal>
+    ensures answer { answer_of result sheet.new ≡ did_of most_marks sheet.old (Change Either c) }
+    ensures kept { OnErr result (sheet.new ≡ sheet.old) }
 {
     did(sheet, Call::Change(Standing::Either, c))
 }
 
 // A receipt of d seconds.
-pub fn receive(sheet: Sheet, c: usize, d: u64) -> Answer
-    ensures { result ≡ did_of most_marks sheet (Receive c d) }
+pub fn receive(sheet: &mut Sheet, c: usize, d: u64) -> Result<(), Refusal>
+    ensures answer { answer_of result sheet.new ≡ did_of most_marks sheet.old (Receive c d) }
+    ensures kept { OnErr result (sheet.new ≡ sheet.old) }
 {
     did(sheet, Call::Receive(c, d))
 }
 
 // A withdrawal of d seconds.
-pub fn withdraw(sheet: Sheet, c: usize, d: u64) -> Answer
-    ensures { result ≡ did_of most_marks sheet (Withdraw c d) }
+pub fn withdraw(sheet: &mut Sheet, c: usize, d: u64) -> Result<(), Refusal>
+    ensures answer { answer_of result sheet.new ≡ did_of most_marks sheet.old (Withdraw c d) }
+    ensures kept { OnErr result (sheet.new ≡ sheet.old) }
 {
     did(sheet, Call::Withdraw(c, d))
 }

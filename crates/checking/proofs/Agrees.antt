@@ -6,7 +6,7 @@ use Rattle.sheet.specs.Record.{Record}
 use Rattle.sheet.specs.Entries.{Agree}
 use Rattle.sheet.specs.declared.Sheet.{Sheet}
 use Rattle.sheet.proofs.Agrees.{agree_back, record_same, class_ready_same}
-use Rattle.checking.specs.declared.Finding.{Finding}
+use Rattle.checking.specs.Finding.{Finding}
 use Rattle.checking.specs.Answers.{JudgedFor, Checked}
 
 pub check_alike : {most : ℕ} {s u : Sheet} {l : List ℕ} {x : Finding} → Agree s u → Checked most s l x → Checked most u l x

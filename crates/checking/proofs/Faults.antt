@@ -10,10 +10,10 @@ use Rattle.lists.specs.Lists.{Boxes, covered, Fits}
 use Rattle.lists.proofs.Places.{boxes_at, boxes_all, covered_at, covered_by, apart_at, apart_all}
 use Rattle.checking.specs.declared.Fault.{Fault}
 use Rattle.checking.specs.declared.Fault.TheVariants as fault
-use Rattle.checking.specs.declared.Finding.{Finding}
-use Rattle.checking.specs.declared.Finding.TheVariants.{Fitting, Faulty}
+use Rattle.checking.specs.Finding.{Finding}
+use Rattle.checking.specs.Finding.Finding.{Fitting, Faulty}
 use Rattle.checking.specs.Faults.{NoBox, Overlaps, Leaves, Uncovered, Has, fault_number, Judged}
-use Rattle.checking.specs.Parts.{FirstIn}
+use Rattle.checking.specs.Parts.{FirstAt, Nowhere}
 
 -- the fault of a number
 numbered : ℕ → Fault
@@ -70,41 +70,37 @@ module _ (m : ℕ) (need room : ℕ → Bool) (l : List ℕ) where
       (λ e. n j (subst (λ (y : Fault). Has m need room l y j) (number_same g f e) x))
       (λ d. w g (omega arith) j x)
 
-  -- what was sought in the list and not found is nowhere in it
-  nowhere : (P : ℕ → Type 0) (i : ℕ) → FirstIn l P i → length l ≤ i → (j : ℕ) → (j < length l) × P j → ⊥
-  nowhere P i s h j x = s.none_before j (omega (arith, x.0)) x.1
-
   -- what was sought and found
-  place : (f : Fault) (P : ℕ → Type 0) (i : ℕ) → ((j : ℕ) → Has m need room l f j ≡ ((j < length l) × P j)) → Without (fault_number f) → FirstIn l P i → i < length l
+  place : (f : Fault) (P : ℕ → Type 0) (i : ℕ) → ((j : ℕ) → Has m need room l f j ≡ ((j < length l) × P j)) → Without (fault_number f) → FirstAt l P i
       → Judged m need room l (Faulty f i)
-  place f P i e w s h = Judged.faulty record {
-    here = transport (sym (e i)) (h, s.here h);
+  place f P i e w s = Judged.faulty record {
+    here = transport (sym (e i)) (s.inside, s.here);
     first_place = λ j k x. s.none_before j k (transport (e j) x).1;
     first_kind = w;
   }
 
   -- kind by kind, each of which is sought where none of those before was found
 
-  pub no_box_at : (i : ℕ) → FirstIn l (NoBox m l) i → i < length l → Judged m need room l (Faulty fault.NoBox i)
+  pub no_box_at : (i : ℕ) → FirstAt l (NoBox m l) i → Judged m need room l (Faulty fault.NoBox i)
   no_box_at i = place fault.NoBox (NoBox m l) i (λ j. refl) without_one
 
-  pub all_boxes : (i : ℕ) → FirstIn l (NoBox m l) i → length l ≤ i → Without 2
-  all_boxes i s h = without_more fault.NoBox without_one (nowhere (NoBox m l) i s h)
+  pub all_boxes : Nowhere l (NoBox m l) → Without 2
+  all_boxes n = without_more fault.NoBox without_one (λ j x. n j x.0 x.1)
 
-  pub each_box : Without 2 → Boxes m l
-  each_box w = boxes_fit (w fault.NoBox (omega arith))
+  pub each_box : Nowhere l (NoBox m l) → Boxes m l
+  each_box n = boxes_fit (λ i x. n i x.0 x.1)
 
-  pub overlap_at : Without 2 → (i : ℕ) → FirstIn l (Overlaps m l) i → i < length l → Judged m need room l (Faulty fault.Overlap i)
-  overlap_at w i = place fault.Overlap (Overlaps m l) i (λ j. refl) w
+  pub overlap_at : Without 2 → (f : Fault) (i : ℕ) → f ≡ fault.Overlap → FirstAt l (Overlaps m l) i → Judged m need room l (Faulty f i)
+  overlap_at w f i e s = subst (λ (g : Fault). Judged m need room l (Faulty g i)) (sym e) (place fault.Overlap (Overlaps m l) i (λ j. refl) w s)
 
-  pub all_apart : Without 2 → (i : ℕ) → FirstIn l (Overlaps m l) i → length l ≤ i → Without 3
-  all_apart w i s h = without_more fault.Overlap w (nowhere (Overlaps m l) i s h)
+  pub all_apart : Without 2 → Nowhere l (Overlaps m l) → Without 3
+  all_apart w n = without_more fault.Overlap w (λ j x. n j x.0 x.1)
 
-  pub leaves_at : Without 3 → (i : ℕ) → FirstIn l (Leaves m room l) i → i < length l → Judged m need room l (Faulty fault.Leaves i)
+  pub leaves_at : Without 3 → (i : ℕ) → FirstAt l (Leaves m room l) i → Judged m need room l (Faulty fault.Leaves i)
   leaves_at w i = place fault.Leaves (Leaves m room l) i (λ j. refl) w
 
-  pub all_inside : Without 3 → (i : ℕ) → FirstIn l (Leaves m room l) i → length l ≤ i → Without 4
-  all_inside w i s h = without_more fault.Leaves w (nowhere (Leaves m room l) i s h)
+  pub all_inside : Without 3 → Nowhere l (Leaves m room l) → Without 4
+  all_inside w n = without_more fault.Leaves w (λ j x. n j x.0 x.1)
 
   pub uncovered_at : Without 4 → (c : ℕ) → Uncovered m need l c → ((d : ℕ) → d < c → Uncovered m need l d → ⊥) → Judged m need room l (Faulty fault.Uncovered c)
   uncovered_at w c x n = Judged.faulty record { here = x; first_place = n; first_kind = w }

@@ -4,3 +4,4 @@ pub mod Faults
 pub mod Settled
 pub mod Some
 pub mod Agrees
+pub mod Found

@@ -7,8 +7,8 @@ use native.Mathlib.Omega.{arith}
 use Rattle.ground.proofs.Cases.{below_or}
 use Rattle.sheet.specs.declared.Sheet.{Sheet}
 use Rattle.checking.specs.declared.Fault.{Fault}
-use Rattle.checking.specs.declared.Finding.{Finding}
-use Rattle.checking.specs.declared.Finding.TheVariants.{Faulty}
+use Rattle.checking.specs.Finding.{Finding}
+use Rattle.checking.specs.Finding.Finding.{Faulty}
 use Rattle.checking.specs.Faults.{Has, fault_number, FirstFault, Judged}
 use Rattle.checking.specs.Faults.Judged.{fits, faulty}
 use Rattle.checking.specs.Answers.{Checked}

@@ -1,6 +1,6 @@
 -- Every sheet and list has a finding: each fault is decided index by index, and what is not found is nowhere.
 use Prim.Native.Nat.{ℕ, zero, suc, ◌^◌, ◌<◌, ◌≤◌}
-use mathlib.Core.Path.{◌≡◌, sym}
+use mathlib.Core.Path.{◌≡◌, refl, sym}
 use mathlib.Core.Bool.{Bool, true, false}
 use mathlib.Core.List.{List}
 use mathlib.Core.Logic.{◌⊎◌, inl, inr, ⊎_elim}
@@ -16,11 +16,11 @@ use Rattle.sheet.specs.declared.Sheet.{Sheet}
 use Rattle.sheet.proofs.Ready.{class_ready_or}
 use Rattle.listing.proofs.Laid.{class_small}
 use Rattle.checking.specs.declared.Fault.TheVariants as fault
-use Rattle.checking.specs.declared.Finding.{Finding}
-use Rattle.checking.specs.declared.Finding.TheVariants.{Spoiled, Fitting, Faulty}
+use Rattle.checking.specs.Finding.{Finding}
+use Rattle.checking.specs.Finding.Finding.{Spoiled, Fitting, Faulty}
 use Rattle.checking.specs.Faults.{NoBox, Overlaps, Leaves, Uncovered, Judged}
 use Rattle.checking.specs.Answers.{Checked}
-use Rattle.checking.specs.Parts.{FirstIn}
+use Rattle.checking.specs.Parts.{FirstAt, Nowhere}
 use Rattle.checking.proofs.Firsts.{Passed, passed_none, passed_more}
 use Rattle.checking.proofs.Faults.{no_box_at, all_boxes, overlap_at, all_apart, leaves_at, all_inside, uncovered_at, all_covered}
 
@@ -48,8 +48,12 @@ module _ (P : ℕ → Type 0) (known : (i : ℕ) → Known (P i)) where
       (λ (x : P n → ⊥). (suc n, omega arith, rw (sym (add-one n)) (passed_more P n (λ j k. r.2 j (omega arith)) x), λ k. absurd (omega arith)))
       (known n))
 
-  first_in : (l : List ℕ) → (i : ℕ) × FirstIn l P i
-  first_in l = let r = first_below (length l) in (r.0, record { inside = r.1; none_before = r.2; here = r.3 })
+  first_in : (l : List ℕ) → Nowhere l P ⊎ ((i : ℕ) × FirstAt l P i)
+  first_in l =
+      let r = first_below (length l) in
+      below_or r.0 (length l)
+      (λ h. inr (r.0, record { inside = h; none_before = r.2; here = r.3 h }))
+      (λ h. inl (λ j k x. r.2 j (omega (arith, h, k)) x))
 
 -- whether there is a number with two properties, where those that have the first are small
 any : (P Q : ℕ → Type 0) → ((i : ℕ) → Known (P i × Q i)) → (n : ℕ) → ((i : ℕ) → P i → i < n) → Known ((i : ℕ) × P i × Q i)
@@ -82,18 +86,21 @@ module _ (m : ℕ) (need room : ℕ → Bool) (l : List ℕ) where
 
   pub judged_some : Small m need → (x : Finding) × Judged m need room l x
   judged_some small =
-      let a = first_in (NoBox m l) no_box_known l in
-      let b = first_in (Overlaps m l) overlaps_known l in
-      let d = first_in (Leaves m room l) leaves_known l in
       let e = first_below (Uncovered m need l) (λ c. differ (need c) (covered m l c)) (2 ^ m) in
-      below_or a.0 (length l) (λ h. (Faulty fault.NoBox a.0, no_box_at m need room l a.0 a.1 h))
-      (λ h. let boxes = all_boxes m need room l a.0 a.1 h in
-      below_or b.0 (length l) (λ h. (Faulty fault.Overlap b.0, overlap_at m need room l boxes b.0 b.1 h))
-      (λ h. let apart = all_apart m need room l boxes b.0 b.1 h in
-      below_or d.0 (length l) (λ h. (Faulty fault.Leaves d.0, leaves_at m need room l apart d.0 d.1 h))
-      (λ h. let inside = all_inside m need room l apart d.0 d.1 h in
+      ⊎_elim
+      (λ (a : Nowhere l (NoBox m l)). let boxes = all_boxes m need room l a in
+      ⊎_elim
+      (λ (b : Nowhere l (Overlaps m l)). let apart = all_apart m need room l boxes b in
+      ⊎_elim
+      (λ (d : Nowhere l (Leaves m room l)). let inside = all_inside m need room l apart d in
       below_or e.0 (2 ^ m) (λ h. (Faulty fault.Uncovered e.0, uncovered_at m need room l inside e.0 (e.3 h) e.2))
-      (λ h. (Fitting, all_covered m need room l inside (λ c x. e.2 c (omega (arith, h, small c x.0)) x))))))
+      (λ h. (Fitting, all_covered m need room l inside (λ c x. e.2 c (omega (arith, h, small c x.0)) x))))
+      (λ (d : (i : ℕ) × FirstAt l (Leaves m room l) i). (Faulty fault.Leaves d.0, leaves_at m need room l apart d.0 d.1))
+      (first_in (Leaves m room l) leaves_known l))
+      (λ (b : (i : ℕ) × FirstAt l (Overlaps m l) i). (Faulty fault.Overlap b.0, overlap_at m need room l boxes fault.Overlap b.0 refl b.1))
+      (first_in (Overlaps m l) overlaps_known l))
+      (λ (a : (i : ℕ) × FirstAt l (NoBox m l) i). (Faulty fault.NoBox a.0, no_box_at m need room l a.0 a.1))
+      (first_in (NoBox m l) no_box_known l)
 
 pub check_some : (most : ℕ) (s : Sheet) (l : List ℕ) → (x : Finding) × Checked most s l x
 check_some most s l =

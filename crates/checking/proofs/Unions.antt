@@ -11,14 +11,24 @@ use lib.ListN.{length, get_or, take}
 use lib.Seq.{get_or-take, length-take-le, take-suc, take_all}
 use Rattle.ground.proofs.Cases.{if, clash, below_or}
 use Rattle.boxes.specs.Boxes.{contains}
-use Rattle.sets.specs.Sets.{has}
+use Rattle.sets.specs.Sets.{has, value_at, Sets}
 use Rattle.sets.proofs.Bits.{has-and, has-or, has-not, has-zero, has_high, zeros_below, lowest_shared, shared, not_shared}
-use Rattle.lists.specs.Lists.{covered}
+use Rattle.lists.specs.Lists.{Boxes, covered}
 use Rattle.lists.proofs.Count.{covered_last}
-use Rattle.lists.proofs.Places.{covered_at, covered_by}
+use Rattle.lists.proofs.Places.{boxes_at, covered_at, covered_by}
 use Rattle.checking.specs.Faults.{Overlaps, Leaves, Uncovered}
-use Rattle.checking.specs.Parts.{SetOf, United}
+use Rattle.checking.specs.Parts.{AllCovered}
 use Rattle.checking.proofs.Firsts.{Passed}
+
+-- u has the combinations of the box b
+pub record SetOf (m b u : ℕ) : Type 0 where
+  pub small : u < 2 ^ 32
+  pub bits : (c : ℕ) → has u c ≡ contains m b c
+
+pub set_at : (m : ℕ) (sets l : List ℕ) (i u : ℕ) → Sets m sets → Boxes m l → i < length l → u ≡ value_at sets (get_or l i 0) → SetOf m (get_or l i 0) u
+set_at m sets l i u known boxes inside e =
+    let set = known (get_or l i 0) (boxes_at m l i boxes inside) in
+    record { small = omega (arith, set.0, e); bits = λ c. ap (λ (x : ℕ). has x c) e ∙ set.1 c }
 
 -- u has what the boxes before i cover
 abbrev pub Covers : ℕ → List ℕ → ℕ → ℕ → Type 0
@@ -67,13 +77,18 @@ module _ (m : ℕ) (l : List ℕ) (i s : ℕ) (inside : i < length l) (set : Set
     pub leaves_not : bit_and s (4294967295 - room) ≡ 0 → Leaves m (has room) l i → ⊥
     leaves_not z x = let c = x.0 in let e = set.bits c ∙ x.1 in not_shared s (4294967295 - room) c z e (outside c e ∙ ap not x.2)
 
--- the needed combinations that a united list does not cover, as a set
-module _ (m need : ℕ) (l : List ℕ) (small : need < 2 ^ 32) (i u : ℕ) (wide : u < 2 ^ 32) (union : United m l i u) (whole : length l ≤ i) where
-  all_covered : (c : ℕ) → has u c ≡ covered m l c
-  all_covered c = union.covers c ∙ ap (λ (k : List ℕ). covered m k c) (take_all i l whole)
+-- where all boxes are passed, u has what the list covers
+pub all_united : (m : ℕ) (l : List ℕ) (i u : ℕ) → length l ≤ i → u < 2 ^ 32 → Passed (Overlaps m l) i → Covers m l i u → AllCovered m l u
+all_united m l i u whole wide passed covers = record {
+  small = wide;
+  apart = λ j h x. passed j (omega (arith, h, whole)) x;
+  covers = λ c. covers c ∙ ap (λ (k : List ℕ). covered m k c) (take_all i l whole);
+}
 
+-- the needed combinations that a united list does not cover, as a set
+module _ (m need : ℕ) (l : List ℕ) (small : need < 2 ^ 32) (u : ℕ) (union : AllCovered m l u) where
   uncovered_is : (c : ℕ) → has need c ≡ true → has (4294967295 - u) c ≡ not (covered m l c)
-  uncovered_is c e = has-not c 32 u wide (low need c small e) ∙ ap not (all_covered c)
+  uncovered_is c e = has-not c 32 u union.small (low need c small e) ∙ ap not (union.covers c)
 
   uncovered_has : (c : ℕ) → Uncovered m (has need) l c → has (bit_and need (4294967295 - u)) c ≡ true
   uncovered_has c x = has-and c need (4294967295 - u) ∙ rw (x.0, uncovered_is c x.0, x.1)

@@ -6,8 +6,8 @@ use Rattle.lists.specs.Lists.{covered, Fits}
 use Rattle.lists.specs.Pottosin.{Joined}
 use Rattle.checking.specs.declared.Fault.{Fault}
 use Rattle.checking.specs.declared.Fault.TheVariants as fault
-use Rattle.checking.specs.declared.Finding.{Finding}
-use Rattle.checking.specs.declared.Finding.TheVariants.{Fitting, Faulty}
+use Rattle.checking.specs.Finding.{Finding}
+use Rattle.checking.specs.Finding.Finding.{Fitting, Faulty}
 
 -- at index i: a box number not below 3^m
 abbrev pub NoBox : ℕ → List ℕ → ℕ → Type 0

@@ -1,3 +1,4 @@
+pub mod Finding
 pub mod Faults
 pub mod Answers
 pub mod Parts

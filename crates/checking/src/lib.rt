@@ -1,21 +1,23 @@
 // Whether a list that others drew fits the class of a sheet, and else its first fault. Any bytes are taken as box numbers, in any order and number.
-#![tactic(auto)]
+#![tactic(auto, using(sheet::proofs::Limits::marks_most))]
 
-ghost use Rattle.std.specs.Prelude.{◌≡◌, ◌<◌, ◌≤◌, length, get_or};
+ghost use Rattle.std.specs.Prelude.{◌≡◌, ◌<◌, ◌≤◌, ◌^◌, IfErr, MatchResult};
 ghost use Rattle.sheet.specs.Limits.{most_marks};
 ghost use Rattle.sheet.specs.Sound.{ClassReady};
-ghost use Rattle.sets.specs.Sets.{set_marks, has, Sets};
+ghost use Rattle.sets.specs.Sets.{set_marks, has, value_at, Sets};
 ghost use Rattle.lists.specs.Lists.{Boxes};
-ghost use Rattle.checking.specs.Faults.{NoBox, Leaves, fault_number, Judged};
-ghost use Rattle.checking.specs.Answers.{Checked, verdict_of};
-ghost use Rattle.checking.specs.Parts.{FirstIn, SetOf, United};
+ghost use Rattle.checking.specs.Faults.{NoBox, Overlaps, Leaves, fault_number};
+ghost use Rattle.checking.specs.Answers.{Checked, finding_of, verdict_on};
+ghost use Rattle.checking.specs.Parts.{Sought, FirstAt, AllCovered, JudgedAs};
 
 use boxes;
+use listing::Bits;
+use refusals::Refusal;
 use sheet::Sheet;
 
 // The faults of a list, in the order in which they are looked for: a number that is no box, a box that overlaps an earlier one, a box that contains an out
 // combination, a combination of the class that is not covered.
-#[derive(Clone, Copy)]
+#[derive(Clone, Copy, Debug, PartialEq, Eq)]
 pub enum Fault {
     NoBox,
     Overlap,
@@ -23,15 +25,22 @@ pub enum Fault {
     Uncovered,
 }
 
-// What the check answers: the sheet's class table is spoiled; the list fits; or its first fault, with the index of the box, or else the combination.
-#[derive(Clone, Copy)]
-pub enum Finding {
-    Spoiled,
-    Fitting,
-    Faulty(Fault, usize),
+impl Fault {
+    // Its number, for C.
+    pub fn number(self) -> u64
+        ensures { result ≡ fault_number self }
+    {
+        match self {
+            Fault::NoBox => 1,
+            Fault::Overlap => 2,
+            Fault::Leaves => 3,
+            Fault::Uncovered => 4,
+        }
+    }
 }
 
 // The reply to a list, for C too: 0 with the number of the fault, 0 where it fits, and where that is; or the number of a refusal.
+// Numbers, as the C interface needs them: `vault_check_list` returns this.
 #[repr(C)]
 #[derive(Clone, Copy)]
 pub struct Verdict {
@@ -41,153 +50,100 @@ pub struct Verdict {
     pub at: u64,
 }
 
-// The index of the first number that is no box over m marks, and the length where each is one.
-fn no_box(m: usize, list: &[u8]) -> usize
+impl From<Result<Option<(Fault, usize)>, Refusal>> for Verdict {
+    ghost from_gives = { λ found v. v ≡ verdict_on found };
+
+    fn from(found: Result<Option<(Fault, usize)>, Refusal>) -> Verdict {
+        let (answer, place, fault, at) = match found {
+            Ok(None) => (0, 0, 0, 0),
+            Ok(Some((fault, at))) => (0, 0, fault.number(), at),
+            Err(refusal) => (refusal.number(), refusal.place(), 0, 0),
+        };
+        Verdict {
+            answer,
+            place: place as u64,
+            fault,
+            at: at as u64,
+        }
+    }
+}
+
+// The index of the first number that is no box over m marks.
+fn no_box(m: usize, list: &[u8]) -> Option<usize>
     requires { m ≤ set_marks }
-    ensures { FirstIn list.now (NoBox m list.now) result }
+    ensures { Sought list.now (NoBox m list.now) result }
 {
     let n = boxes::power3(m);
-    let mut i: usize = 0;
-    while i < list.len() {
-        if n <= list[i] as usize {
-            return i;
-        }
-        i += 1;
-    }
-    i
+    list.iter().position(|b| n <= usize::from(*b))
 }
 
-// The combinations of the box at an index.
-fn set_at(m: usize, sets: &[u32; 243], list: &[u8], i: usize) -> u32
-    requires { (m ≤ set_marks) × Sets m sets.now × Boxes m list.now × (i < length list.now) }
-    ensures { SetOf m (get_or list.now i 0) result }
+// The combinations of the box with a number, none where no box has it.
+fn set_of(sets: &[u32; 243], b: u8) -> u32
+    ensures { (result ≡ value_at sets.now b) × (result < 2 ^ 32) }
 {
-    sets[list[i] as usize]
+    sets.get(usize::from(b)).copied().unwrap_or(0)
 }
 
-// The index of the first box that overlaps an earlier one, and the length where none does; and what the boxes before it cover.
-#[derive(Clone, Copy)]
-struct Union {
-    end: usize,
-    covered: u32,
-}
-
-// Unites the boxes of a list as long as they do not overlap.
-fn united(m: usize, sets: &[u32; 243], list: &[u8]) -> Union
+// What the boxes of a list cover together, or the first that overlaps an earlier one.
+fn united(m: usize, sets: &[u32; 243], list: &[u8]) -> Result<u32, (Fault, usize)>
     requires { (m ≤ set_marks) × Sets m sets.now × Boxes m list.now }
-    ensures { United m list.now result.end result.covered }
+    ensures { MatchResult result (AllCovered m list.now) (λ e. (e.0 ≡ Fault.Overlap) × FirstAt list.now (Overlaps m list.now) e.1) }
 {
-    let mut covered: u32 = 0;
-    let mut i: usize = 0;
-    while i < list.len() {
-        let s = set_at(m, sets, list, i);
-        if s & covered != 0 {
-            return Union { end: i, covered };
+    let mut covered = 0;
+    for (i, b) in list.iter().enumerate() {
+        let set = set_of(sets, *b);
+        if set & covered != 0 {
+            return Err((Fault::Overlap, i));
         }
-        covered = covered | s;
-        i += 1;
+        covered |= set;
     }
-    Union { end: i, covered }
+    Ok(covered)
 }
 
-// The index of the first box that leaves the room, and the length where none does.
-fn leaving(m: usize, sets: &[u32; 243], room: u32, list: &[u8]) -> usize
+// The index of the first box that leaves the room.
+fn leaving(m: usize, sets: &[u32; 243], room: u32, list: &[u8]) -> Option<usize>
     requires { (m ≤ set_marks) × Sets m sets.now × Boxes m list.now }
-    ensures { FirstIn list.now (Leaves m (has room) list.now) result }
+    ensures { Sought list.now (Leaves m (has room) list.now) result }
 {
-    let mut i: usize = 0;
-    while i < list.len() {
-        let s = set_at(m, sets, list, i);
-        if s & !room != 0 {
-            return i;
-        }
-        i += 1;
-    }
-    i
+    list.iter().position(|b| set_of(sets, *b) & !room != 0)
 }
 
-// What is found of a list that should cover all of `need` inside `room`, sets of combinations of m marks.
-fn judged(m: usize, need: u32, room: u32, list: &[u8]) -> Finding
+// The first fault of a list over m marks that should cover what it must inside what it may.
+fn judged(m: usize, told: Bits, list: &[u8]) -> Result<(), (Fault, usize)>
     requires { m ≤ set_marks }
-    ensures { Judged m (has need) (has room) list.now result }
+    ensures { JudgedAs m (has told.need) (has told.room) list.now result }
 {
-    let n = list.len();
-    let unknown = no_box(m, list);
-    if unknown < n {
-        return Finding::Faulty(Fault::NoBox, unknown);
+    if let Some(i) = no_box(m, list) {
+        return Err((Fault::NoBox, i));
     }
     let sets = sets::sets();
-    let union = united(m, &sets, list);
-    if union.end < n {
-        return Finding::Faulty(Fault::Overlap, union.end);
+    let covered = united(m, &sets, list)?;
+    if let Some(i) = leaving(m, &sets, told.room, list) {
+        return Err((Fault::Leaves, i));
     }
-    let leaves = leaving(m, &sets, room, list);
-    if leaves < n {
-        return Finding::Faulty(Fault::Leaves, leaves);
-    }
-    let missed = need & !union.covered;
+    let missed = told.need & !covered;
     if missed != 0 {
-        return Finding::Faulty(Fault::Uncovered, u32::trailing_zeros(missed) as usize);
+        return Err((Fault::Uncovered, missed.trailing_zeros() as usize));
     }
-    Finding::Fitting
+    Ok(())
 }
 
-// What is found of a list for a sheet whose class table is sound.
-pub fn check_sound(sheet: Sheet, list: &[u8]) -> Finding
-    requires { ClassReady most_marks sheet }
-    ensures { Checked most_marks sheet list.now result }
+// The first fault of a list for a sheet whose class table is sound; none where it fits.
+pub fn check_sound(sheet: &Sheet, list: &[u8]) -> Option<(Fault, usize)>
+    requires { ClassReady most_marks sheet.now }
+    ensures { Checked most_marks sheet.now list.now (finding_of (Ok result)) }
 {
-    let m = sheet.marks;
-    let outside = sheet.outside;
-    let either = sheet.either;
-    let told = listing::class_bits(m, &outside, &either);
-    judged(m, told.need, told.room, list)
+    let told = listing::class_bits(sheet);
+    judged(sheet.marks, told, list).err()
 }
 
 // Whether the list fits the sheet's class, and else its first fault.
-pub fn check(sheet: Sheet, list: &[u8]) -> Finding
-    ensures { Checked most_marks sheet list.now result }
+pub fn check(sheet: &Sheet, list: &[u8]) -> Result<Option<(Fault, usize)>, Refusal>
+    ensures found { Checked most_marks sheet.now list.now (finding_of result) }
+    ensures refused { IfErr result (λ e. e ≡ Refusal.Spoiled) }
 {
     if !sheet.class_ready() {
-        return Finding::Spoiled;
+        return Err(Refusal::Spoiled);
     }
-    check_sound(sheet, list)
-}
-
-fn fault_number(f: Fault) -> u64
-    ensures { result ≡ fault_number f }
-{
-    match f {
-        Fault::NoBox => 1,
-        Fault::Overlap => 2,
-        Fault::Leaves => 3,
-        Fault::Uncovered => 4,
-    }
-}
-
-fn found(fault: u64, at: u64) -> Verdict
-    ensures { result ≡ record { answer = 0; place = 0; fault = fault; at = at } }
-{
-    Verdict {
-        answer: 0,
-        place: 0,
-        fault,
-        at,
-    }
-}
-
-// What was found, as a reply.
-pub fn verdict_of(f: Finding) -> Verdict
-    ensures { result ≡ verdict_of f }
-{
-    match f {
-        Finding::Spoiled => Verdict {
-            answer: 7,
-            place: 0,
-            fault: 0,
-            at: 0,
-        },
-        Finding::Fitting => found(0, 0),
-        Finding::Faulty(fault, at) => found(fault_number(fault), at as u64),
-    }
+    Ok(check_sound(sheet, list))
 }

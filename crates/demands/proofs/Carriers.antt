@@ -15,7 +15,7 @@ use Rattle.classes.specs.declared.Standing.TheVariants.{In, Out, Either}
 use Rattle.sheet.specs.Limits.{most_marks, entries}
 use Rattle.sheet.specs.Record.{Record, in_class, not_out, Obeys, opened_under}
 use Rattle.sheet.specs.Sound.{Ready}
-use Rattle.sheet.specs.declared.Answer.{Answer}
+use Rattle.sheet.specs.Told.{Answer}
 use Rattle.sheet.specs.declared.Sheet.{Sheet}
 use Rattle.sheet.proofs.Answers.{open_under_refused, open_under_faulty, open_under_done}
 use Rattle.sheet.proofs.Opening.{opened_low}

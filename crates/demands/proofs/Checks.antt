@@ -9,7 +9,7 @@ use Rattle.lists.proofs.Fit.{fits_swapped}
 use Rattle.sheet.specs.Limits.{most_marks}
 use Rattle.sheet.specs.Sound.{ClassReady}
 use Rattle.sheet.specs.declared.Sheet.{Sheet}
-use Rattle.sheet.specs.declared.Value.{Value}
+use Rattle.sheet.specs.Told.{Value}
 use Rattle.listing.specs.Listing.{Listed}
 use Rattle.checking.specs.Faults.{Judged}
 use Rattle.checking.specs.Answers.{Checked, verdict_of}

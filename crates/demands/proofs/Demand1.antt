@@ -18,8 +18,8 @@ use Rattle.sheet.specs.Record.{Table, outside_counts, either_counts, held_second
 use Rattle.sheet.specs.Sound.{own_in}
 use Rattle.sheet.specs.Answers.{open_of, open_under_of, ClassSize}
 use Rattle.sheet.specs.declared.Sheet.{Sheet}
-use Rattle.sheet.specs.declared.Answer.{Answer}
-use Rattle.sheet.specs.declared.Value.{Value}
+use Rattle.sheet.specs.Told.{Answer}
+use Rattle.sheet.specs.Told.{Value}
 use Rattle.sheet.proofs.Answers.{open_done, open_refused, open_under_done, open_under_faulty, open_under_refused}
 use Rattle.changes.specs.Calls.{counts_fit, fits_amount, change_no, amount_no, number_on, did_of, move_of, moved_sheet}
 use Rattle.changes.specs.declared.Call.{Call}

@@ -25,7 +25,7 @@ use Rattle.sheet.proofs.Ready.{class_of_ready}
 use Rattle.sheet.proofs.Told.{in-not-out}
 use Rattle.sheet.specs.Sound.{ClassReady, record_of}
 use Rattle.sheet.specs.declared.Sheet.{Sheet}
-use Rattle.sheet.specs.declared.Value.{Value}
+use Rattle.sheet.specs.Told.{Value}
 use Rattle.listing.specs.Listing.{Listed}
 use Rattle.totals.specs.Totals.{total_of, Totalled}
 use Rattle.listing.proofs.Laid.{class_small, list_laid}

@@ -17,9 +17,9 @@ use Rattle.sheet.specs.Limits.{most_marks, entries, marks_ok}
 use Rattle.sheet.specs.Record.{Record, in_class, Table, outside_counts, either_counts, held_seconds, kept, quantity, sheet_of}
 use Rattle.sheet.specs.Sound.{size_of}
 use Rattle.sheet.specs.Answers.{open_of, open_under_of, ClassSize}
-use Rattle.sheet.specs.declared.Answer.{Answer}
+use Rattle.sheet.specs.Told.{Answer}
 use Rattle.sheet.specs.declared.Sheet.{Sheet}
-use Rattle.sheet.specs.declared.Value.{Value}
+use Rattle.sheet.specs.Told.{Value}
 use Rattle.sheet.proofs.Answers.{open_done, open_refused, open_under_done, open_under_faulty, open_under_refused}
 use Rattle.sheet.proofs.Limits.{boxes_fit}
 use Rattle.changes.specs.Calls.{move_of}

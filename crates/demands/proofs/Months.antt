@@ -7,7 +7,7 @@ use Rattle.dates.proofs.Known.{known}
 use Rattle.sheet.specs.Limits.{most_marks, entries}
 use Rattle.sheet.specs.Record.{Record}
 use Rattle.sheet.specs.Answers.{open_of}
-use Rattle.sheet.specs.declared.Answer.{Answer}
+use Rattle.sheet.specs.Told.{Answer}
 use Rattle.sheet.proofs.Answers.{open_done}
 use Rattle.totals.specs.Totals.{total_of}
 use Rattle.ground.specs.Texts.{ascii}

@@ -24,7 +24,7 @@ use Rattle.sheet.specs.Limits.{most_marks, entries, marks_ok}
 use Rattle.sheet.specs.Record.{Record, in_class, not_out, held_seconds, sheet_of}
 use Rattle.sheet.specs.Sound.{record_of}
 use Rattle.sheet.specs.declared.Sheet.{Sheet}
-use Rattle.sheet.specs.declared.Value.{Value}
+use Rattle.sheet.specs.Told.{Value}
 use Rattle.sheet.proofs.Told.{in-not-out, not_out_low}
 use Rattle.listing.proofs.Laid.{class_small}
 use Rattle.stored.specs.Fields.{Outcome, good, refused}

@@ -6,7 +6,7 @@ use native.Mathlib.Omega.{arith}
 use Rattle.sheet.specs.Limits.{most_marks}
 use Rattle.sheet.specs.Sound.{ClassReady}
 use Rattle.sheet.specs.declared.Sheet.{Sheet}
-use Rattle.sheet.specs.declared.Value.{Value}
+use Rattle.sheet.specs.Told.{Value}
 use Rattle.listing.specs.Listing.{Listed}
 
 -- the number n is 7 exactly for such a sheet

@@ -19,7 +19,7 @@ use Rattle.sheet.specs.Limits.{most_marks, entries, marks_ok, amount_ok}
 use Rattle.sheet.specs.Record.{Record, NoneEither, outside_counts, either_counts, held_seconds, sheet_of}
 use Rattle.sheet.specs.Sound.{own_in, record_of}
 use Rattle.sheet.specs.declared.Sheet.{Sheet}
-use Rattle.sheet.specs.declared.Value.{Value}
+use Rattle.sheet.specs.Told.{Value}
 use Rattle.sheet.proofs.Kept.{told_back}
 use Rattle.changes.specs.Calls.{fits_amount, amount_no}
 use Rattle.changes.specs.declared.Call.TheVariants.{Change, Receive}

@@ -4,7 +4,7 @@ use Rattle.sheet.specs.Limits.{most_marks, entries}
 use Rattle.sheet.specs.Answers.{ClassSize}
 use Rattle.sheet.specs.Entries.{Long, Agree}
 use Rattle.sheet.specs.declared.Sheet.{Sheet}
-use Rattle.sheet.specs.declared.Value.{Value}
+use Rattle.sheet.specs.Told.{Value}
 use Rattle.changes.specs.Calls.{did_of}
 use Rattle.changes.specs.Promises.{Alike, AboveKept}
 use Rattle.changes.specs.declared.Call.{Call}

@@ -5,7 +5,7 @@ use Rattle.sheet.specs.Limits.{most_marks, entries}
 use Rattle.sheet.specs.Record.{Table}
 use Rattle.sheet.specs.Answers.{open_of, open_under_of, ClassSize}
 use Rattle.sheet.specs.declared.Sheet.{Sheet}
-use Rattle.sheet.specs.declared.Value.{Value}
+use Rattle.sheet.specs.Told.{Value}
 use Rattle.changes.specs.Calls.{did_of}
 use Rattle.changes.specs.declared.Call.{Call}
 use Rattle.listing.specs.Listing.{Listed}

@@ -11,7 +11,7 @@ use Rattle.sheet.specs.Limits.{most_marks}
 use Rattle.sheet.specs.Record.{Record, in_class, not_out, NoneEither}
 use Rattle.sheet.specs.Sound.{ClassReady, record_of}
 use Rattle.sheet.specs.declared.Sheet.{Sheet}
-use Rattle.sheet.specs.declared.Value.{Value}
+use Rattle.sheet.specs.Told.{Value}
 use Rattle.listing.specs.Listing.{Listed}
 use Rattle.totals.specs.Totals.{total_of, Totalled}
 use Rattle.stored.specs.Fields.{Bytes}

@@ -11,7 +11,7 @@ use Rattle.sheet.specs.Record.{Record, in_class, Table, kept, quantity, opened_u
 use Rattle.sheet.specs.Sound.{size_of}
 use Rattle.sheet.specs.Answers.{open_of, open_under_of, ClassSize}
 use Rattle.sheet.specs.declared.Sheet.{Sheet}
-use Rattle.sheet.specs.declared.Value.{Value}
+use Rattle.sheet.specs.Told.{Value}
 use Rattle.changes.specs.Calls.{did_of, move_of}
 use Rattle.changes.specs.Promises.{Altered}
 use Rattle.changes.specs.declared.Call.{Call}

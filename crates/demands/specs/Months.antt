@@ -9,7 +9,7 @@ use Rattle.dates.specs.declared.date.Date.{Date}
 use Rattle.sheet.specs.Limits.{most_marks, entries}
 use Rattle.sheet.specs.Answers.{open_of}
 use Rattle.sheet.specs.declared.Sheet.{Sheet}
-use Rattle.sheet.specs.declared.Value.{Value}
+use Rattle.sheet.specs.Told.{Value}
 use Rattle.changes.specs.declared.Call.{Call}
 use Rattle.totals.specs.Totals.{Totalled}
 use Rattle.histories.specs.Histories.{number_of, after_all, numbers_of, sheet_after, number_given}

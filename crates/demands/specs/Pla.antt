@@ -9,7 +9,7 @@ use Rattle.sheet.specs.Limits.{most_marks, entries, marks_ok}
 use Rattle.sheet.specs.Record.{Record, in_class, NoneEither, sheet_of}
 use Rattle.sheet.specs.Sound.{record_of}
 use Rattle.sheet.specs.declared.Sheet.{Sheet}
-use Rattle.sheet.specs.declared.Value.{Value}
+use Rattle.sheet.specs.Told.{Value}
 use Rattle.listing.specs.Listing.{Listed}
 use Rattle.stored.specs.Fields.{good}
 use Rattle.stored.specs.Form.{form}

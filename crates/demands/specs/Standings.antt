@@ -11,7 +11,7 @@ use Rattle.sheet.specs.Limits.{most_marks, entries, marks_ok, amount_ok}
 use Rattle.sheet.specs.Record.{Record, in_class, NoneEither, outside_counts, either_counts, held_seconds}
 use Rattle.sheet.specs.Sound.{own_in}
 use Rattle.sheet.specs.declared.Sheet.{Sheet}
-use Rattle.sheet.specs.declared.Value.{Value}
+use Rattle.sheet.specs.Told.{Value}
 use Rattle.changes.specs.Calls.{did_of}
 use Rattle.changes.specs.declared.Call.{Call}
 use Rattle.changes.specs.declared.Call.TheVariants.{Change, Receive}

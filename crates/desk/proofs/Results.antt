@@ -20,7 +20,7 @@ use Rattle.sheet.specs.Record.{Record, in_class, held_seconds, sheet_of}
 use Rattle.sheet.specs.Sound.{size_of}
 use Rattle.sheet.specs.Answers.{ClassSize}
 use Rattle.sheet.specs.declared.Sheet.{Sheet}
-use Rattle.sheet.specs.declared.Value.{Value}
+use Rattle.sheet.specs.Told.{Value}
 use Rattle.sheet.proofs.Opening.{combinations_fit}
 use Rattle.sheet.proofs.Limits.{boxes_fit, marks_most}
 use Rattle.listing.specs.Listing.{Listed}

@@ -12,7 +12,7 @@ use Rattle.sheet.specs.Limits.{most_marks, entries, marks_ok}
 use Rattle.sheet.specs.Record.{Record, sheet_of, opened}
 use Rattle.sheet.specs.Answers.{open_of}
 use Rattle.sheet.specs.declared.Sheet.{Sheet}
-use Rattle.sheet.specs.declared.Answer.{Answer}
+use Rattle.sheet.specs.Told.{Answer}
 use Rattle.changes.specs.Calls.{did_of}
 use Rattle.changes.specs.declared.Call.{Call}
 use Rattle.histories.specs.Histories.{number_of, after}

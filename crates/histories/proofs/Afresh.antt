@@ -21,7 +21,7 @@ use Rattle.sheet.specs.Limits.{most_marks, entries}
 use Rattle.sheet.specs.Record.{Record, in_class, Table, outside_counts, either_counts, held_seconds, kept, quantity, sheet_of}
 use Rattle.sheet.specs.Sound.{ClassReady, Ready, record_of, size_of}
 use Rattle.sheet.specs.Answers.{ClassSize}
-use Rattle.sheet.specs.declared.Value.{Value}
+use Rattle.sheet.specs.Told.{Value}
 use Rattle.sheet.proofs.Kept.{class_sound, standing_told, times_sound}
 use Rattle.sheet.proofs.Ready.{class_of_ready}
 use Rattle.sheet.proofs.Limits.{boxes_fit}

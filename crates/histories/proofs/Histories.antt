@@ -4,7 +4,7 @@ use mathlib.Core.List.{List, [], ◌∷◌}
 use Prim.Native.Nat.{ℕ}
 use Rattle.sheet.specs.Limits.{entries}
 use Rattle.sheet.specs.Record.{Record, sheet_of}
-use Rattle.sheet.specs.declared.Answer.{Answer}
+use Rattle.sheet.specs.Told.{Answer}
 use Rattle.changes.specs.declared.Call.{Call}
 use Rattle.histories.specs.Histories.{Good, number_of, after, after_all, numbers_of, sheet_after, number_given}
 use Rattle.histories.proofs.Kept.{did_kept}

@@ -15,7 +15,7 @@ use Rattle.classes.specs.Standings.{outs, eithers}
 use Rattle.sheet.specs.Limits.{most_marks, entries, marks_ok, amount_ok}
 use Rattle.sheet.specs.Record.{Record, Table, outside_counts, either_counts, held_seconds, quantity, sheet_with, sheet_from, sheet_of}
 use Rattle.sheet.specs.declared.Sheet.{Sheet}
-use Rattle.sheet.specs.declared.Answer.{Answer}
+use Rattle.sheet.specs.Told.{Answer}
 use Rattle.sheet.proofs.Limits.{boxes_fit}
 use Rattle.changes.specs.Calls.{answered, amount_shift, move_of, shift_in, moved_sheet, did_of}
 use Rattle.changes.specs.declared.Call.{Call}

@@ -12,8 +12,8 @@ use Rattle.sheet.specs.Limits.{most_marks, entries}
 use Rattle.sheet.specs.Record.{Record, sheet_of}
 use Rattle.sheet.specs.Sound.{record_of}
 use Rattle.sheet.specs.declared.Sheet.{Sheet}
-use Rattle.sheet.specs.declared.Answer.{Answer}
-use Rattle.sheet.specs.declared.Value.{Value}
+use Rattle.sheet.specs.Told.{Answer}
+use Rattle.sheet.specs.Told.{Value}
 use Rattle.stored.specs.Answers.{Reads, Writes, spoiled, short, written}
 use Rattle.stored.specs.Fields.{Bytes, good, ReadingBy, Reading}
 use Rattle.stored.specs.declared.Layout.{Layout}

@@ -7,7 +7,7 @@ use Rattle.classes.specs.Standings.{is, is_out, is_either}
 use Rattle.sheet.specs.Limits.{most_marks, most_held, marks_ok, amount_ok}
 use Rattle.sheet.specs.Record.{Record, with_standing, with_times, updated, in_class, not_out, Obeys}
 use Rattle.sheet.specs.declared.Sheet.{Sheet}
-use Rattle.sheet.specs.declared.Value.{Value}
+use Rattle.sheet.specs.Told.{Value}
 use Rattle.changes.specs.Calls.{did_of}
 use Rattle.changes.specs.declared.Call.{Call}
 use Rattle.changes.specs.declared.Call.TheVariants.{Change, Receive, Withdraw}

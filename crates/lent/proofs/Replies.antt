@@ -16,8 +16,8 @@ use Rattle.listing.specs.Listing.{Listed}
 use Rattle.totals.specs.Totals.{total_of, Totalled}
 use Rattle.pla.specs.Answers.{WritesPla}
 use Rattle.sheet.specs.declared.Sheet.{Sheet}
-use Rattle.sheet.specs.declared.Answer.{Answer}
-use Rattle.sheet.specs.declared.Value.{Value}
+use Rattle.sheet.specs.Told.{Answer}
+use Rattle.sheet.specs.Told.{Value}
 use Rattle.stored.specs.Answers.{read_of, ReadsBy, Reads, Writes}
 use Rattle.stored.specs.declared.Layout.{Layout}
 use Rattle.stored.specs.Fields.{Outcome, good, refused}

@@ -4,8 +4,8 @@ use mathlib.Core.Path.{◌≡◌, refl, sym, ◌∙◌, ap, subst}
 use mathlib.Core.List.{List}
 use Rattle.sheet.specs.Limits.{most_marks, entries}
 use Rattle.sheet.specs.declared.Sheet.{Sheet}
-use Rattle.sheet.specs.declared.Answer.{Answer}
-use Rattle.sheet.specs.declared.Value.{Value}
+use Rattle.sheet.specs.Told.{Answer}
+use Rattle.sheet.specs.Told.{Value}
 use Rattle.stored.specs.Answers.{Reads}
 use Rattle.stored.specs.declared.Read.{Read}
 use Rattle.stored.proofs.Settled.{reads_settled, writes_settled}

@@ -6,8 +6,8 @@ use Rattle.tables.specs.Tables.{entry}
 use Rattle.sheet.specs.Limits.{most_marks, entries}
 use Rattle.sheet.specs.Record.{Table, kept}
 use Rattle.sheet.specs.declared.Sheet.{Sheet}
-use Rattle.sheet.specs.declared.Answer.{Answer}
-use Rattle.sheet.specs.declared.Value.{Value}
+use Rattle.sheet.specs.Told.{Answer}
+use Rattle.sheet.specs.Told.{Value}
 use Rattle.stored.specs.Answers.{Reads, Writes}
 use Rattle.stored.specs.declared.Read.{Read}
 use Rattle.checking.specs.Answers.{Checked, verdict_of}

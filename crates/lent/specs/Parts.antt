@@ -4,7 +4,7 @@ use Rattle.sheet.specs.Limits.{most_marks}
 use Rattle.sheet.specs.Record.{outside_counts, either_counts, held_seconds}
 use Rattle.sheet.specs.Answers.{ClassSize}
 use Rattle.sheet.specs.declared.Sheet.{Sheet}
-use Rattle.sheet.specs.declared.Value.{Value}
+use Rattle.sheet.specs.Told.{Value}
 use Rattle.listing.specs.Listing.{Listed}
 use Rattle.totals.specs.Totals.{Totalled}
 use Rattle.pla.specs.Answers.{WritesPla}

@@ -7,7 +7,7 @@ use Rattle.lists.specs.Lists.{most_lines}
 use Rattle.sheet.specs.Record.{Record, in_class, not_out}
 use Rattle.sheet.specs.Entries.{Agree}
 use Rattle.sheet.specs.declared.Sheet.{Sheet}
-use Rattle.sheet.specs.declared.Value.{Value}
+use Rattle.sheet.specs.Told.{Value}
 use Rattle.sheet.proofs.Agrees.{agree_back, record_same, class_ready_same}
 use Rattle.listing.specs.Listing.{Laid, Listed}
 

@@ -13,7 +13,7 @@ use Rattle.sheet.specs.Limits.{most_marks}
 use Rattle.sheet.specs.Record.{in_class, not_out}
 use Rattle.sheet.specs.Sound.{ClassReady, record_of}
 use Rattle.sheet.specs.declared.Sheet.{Sheet}
-use Rattle.sheet.specs.declared.Value.{Value}
+use Rattle.sheet.specs.Told.{Value}
 use Rattle.sheet.proofs.Told.{in-low}
 use Rattle.listing.specs.Listing.{Laid, Listed}
 

@@ -7,7 +7,7 @@ use native.Mathlib.Omega.{arith}
 use lib.ListN.{length, drop}
 use Rattle.lists.proofs.First.{unique}
 use Rattle.sheet.specs.declared.Sheet.{Sheet}
-use Rattle.sheet.specs.declared.Value.{Value}
+use Rattle.sheet.specs.Told.{Value}
 use Rattle.listing.specs.Listing.{Laid, Listed}
 
 laid_settled : {m : ℕ} {need room : ℕ → Bool} {area : List ℕ} {n k : ℕ} {x y : List ℕ} → Laid m need room area n x → Laid m need room area k y → (n ≡ k) × (x ≡ y)

@@ -4,7 +4,7 @@ use Rattle.lists.specs.Lists.{FirstShortest, most_lines}
 use Rattle.sheet.specs.Record.{in_class, not_out}
 use Rattle.sheet.specs.Sound.{ClassReady, record_of}
 use Rattle.sheet.specs.declared.Sheet.{Sheet}
-use Rattle.sheet.specs.declared.Value.{Value}
+use Rattle.sheet.specs.Told.{Value}
 
 -- a list of n boxes in a lent area: of the lists that cover `need` inside `room` the first shortest one, at the front, one byte for each box, and the bytes
 -- behind it as they were

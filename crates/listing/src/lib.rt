@@ -1,9 +1,10 @@
 // The list of a sheet's class.
-#![tactic(auto)]
+#![tactic(auto, using(sheet::proofs::Limits::marks_most, sheet::proofs::Over::boxes_within))]
 
 ghost use Rattle.std.specs.Prelude.{◌≡◌, ◌^◌, ◌<◌, ◌≤◌, length, ◌&&◌, eqb, ltb};
 ghost use Rattle.sheet.specs.Limits.{most_marks, entries};
 ghost use Rattle.sheet.specs.Sound.{ClassReady};
+ghost use Rattle.sheet.specs.Told.{value_of};
 ghost use Rattle.tables.specs.Tables.{own};
 ghost use Rattle.sets.specs.Sets.{has};
 ghost use Rattle.lists.specs.Lists.{Within, most_lines};
@@ -12,11 +13,12 @@ ghost use Rattle.listing.specs.Parts.{BitsOf};
 
 use boxes;
 use lists;
+use refusals::Refusal;
 use seek;
-use sheet::{Sheet, Value};
+use sheet::Sheet;
 
 // What the lines of a sheet must cover, its class, and what they may cover: a bit for each combination.
-#[derive(Clone, Copy)]
+#[derive(Clone, Copy, Debug, PartialEq, Eq)]
 pub struct Bits {
     pub need: u32,
     pub room: u32,
@@ -27,25 +29,23 @@ fn zeros(m: usize, t: &[u32]) -> u32
     requires { (m ≤ most_marks) × (entries ≤ length t.now) }
     ensures { (result < 2 ^ (2 ^ m)) × (has result ≡ (λ c. ltb c (2 ^ m) && eqb (own m t.now c) 0)) }
 {
-    let n = boxes::power2(m);
-    let mut set: u32 = 0;
-    for c in 0..n {
-        let b = boxes::single(m, c);
-        if t[b] == 0 {
-            set = set | (1 << c);
+    let mut set = 0;
+    for c in 0..boxes::power2(m) {
+        if t[boxes::single(m, c)] == 0 {
+            set |= 1 << c;
         }
     }
     set
 }
 
 // The sets that the counts tell: in are those with neither count, and those without an outside count are not out.
-pub fn class_bits(m: usize, outside: &[u32], either: &[u32]) -> Bits
-    requires { (m ≤ most_marks) × (entries ≤ length outside.now) × (entries ≤ length either.now) }
-    ensures { BitsOf m outside.now either.now result }
+pub fn class_bits(sheet: &Sheet) -> Bits
+    requires { sheet.now.marks ≤ most_marks }
+    ensures { BitsOf sheet.now result }
 {
-    let room = zeros(m, outside);
+    let room = zeros(sheet.marks, &sheet.outside);
     Bits {
-        need: room & zeros(m, either),
+        need: room & zeros(sheet.marks, &sheet.either),
         room,
     }
 }
@@ -57,49 +57,41 @@ pub fn area() -> [u8; 16]
     [0u8; 16]
 }
 
-// Lays the first shortest list of m marks that covers `need` inside `room`: how many boxes it has. The search has an area of its own; the lent one gets the
-// finished list.
-fn lay(m: usize, need: u32, room: u32, area: &mut [u8]) -> usize
-    requires { (m ≤ most_marks) × (need < 2 ^ (2 ^ m)) × Within (has need) (has room) × (most_lines m ≤ length area.old) }
-    ensures { Laid m (has need) (has room) area.old result area.new }
+// Lays the first shortest list of m marks that covers what it must inside what it may: how many boxes it has. The search has an area of its own; the lent
+// one gets the finished list.
+fn lay(m: usize, told: Bits, area: &mut [u8]) -> usize
+    requires few { m ≤ most_marks }
+    requires small { told.need < 2 ^ (2 ^ m) }
+    requires within { Within (has told.need) (has told.room) }
+    requires long { most_lines m ≤ length area.old }
+    ensures { Laid m (has told.need) (has told.room) area.old result area.new }
 {
     let mut own = crate::area();
     let n = lists::most_lines(m);
-    let k = seek::shortest(m, need, room, &mut own[..n]);
-    ground::put(area, 0, &own[..k])
+    let k = seek::shortest(m, told.need, told.room, &mut own[..n]);
+    area[..k].copy_from_slice(&own[..k]);
+    k
 }
 
 // The list of a sheet whose class table is sound.
-pub fn list_sound(sheet: Sheet, area: &mut [u8]) -> Value
-    requires { ClassReady most_marks sheet }
-    ensures { Listed most_marks sheet area.old result area.new }
+pub fn list_sound(sheet: &Sheet, area: &mut [u8]) -> Result<u64, Refusal>
+    requires { ClassReady most_marks sheet.now }
+    ensures { Listed most_marks sheet.now area.old (value_of result) area.new }
 {
-    let m = sheet.marks;
-    let outside = sheet.outside;
-    let either = sheet.either;
-    if area.len() < lists::most_lines(m) {
-        return Value {
-            number: 5,
-            value: 0,
-        };
+    if area.len() < lists::most_lines(sheet.marks) {
+        return Err(Refusal::Room);
     }
-    let told = class_bits(m, &outside, &either);
-    let k = lay(m, told.need, told.room, area);
-    Value {
-        number: 0,
-        value: k as u64,
-    }
+    let told = class_bits(sheet);
+    let k = lay(sheet.marks, told, area);
+    Ok(k as u64)
 }
 
 // The shortest list of the sheet's class, in the lent area: its length.
-pub fn list(sheet: Sheet, area: &mut [u8]) -> Value
-    ensures { Listed most_marks sheet area.old result area.new }
+pub fn list(sheet: &Sheet, area: &mut [u8]) -> Result<u64, Refusal>
+    ensures { Listed most_marks sheet.now area.old (value_of result) area.new }
 {
     if !sheet.class_ready() {
-        return Value {
-            number: 7,
-            value: 0,
-        };
+        return Err(Refusal::Spoiled);
     }
     list_sound(sheet, area)
 }

@@ -8,7 +8,7 @@ use Rattle.sheet.specs.Record.{Record, in_class, not_out}
 use Rattle.sheet.specs.Sound.{record_of}
 use Rattle.sheet.specs.Entries.{Agree}
 use Rattle.sheet.specs.declared.Sheet.{Sheet}
-use Rattle.sheet.specs.declared.Value.{Value}
+use Rattle.sheet.specs.Told.{Value}
 use Rattle.sheet.proofs.Agrees.{agree_back, record_same, class_ready_same}
 use Rattle.pla.specs.Writing.{pla_text}
 use Rattle.pla.specs.Answers.{WritesPla, spoiled, short, written}

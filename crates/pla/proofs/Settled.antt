@@ -9,7 +9,7 @@ use Rattle.lists.proofs.First.{unique}
 use Rattle.sheet.specs.Record.{in_class, not_out}
 use Rattle.sheet.specs.Sound.{record_of}
 use Rattle.sheet.specs.declared.Sheet.{Sheet}
-use Rattle.sheet.specs.declared.Value.{Value}
+use Rattle.sheet.specs.Told.{Value}
 use Rattle.stored.specs.Answers.{read_of}
 use Rattle.stored.specs.declared.Read.{Read}
 use Rattle.stored.proofs.Settled.{read_by_settled}

@@ -4,7 +4,7 @@ use Rattle.lists.specs.Lists.{FirstShortest}
 use Rattle.sheet.specs.Record.{in_class, not_out}
 use Rattle.sheet.specs.Sound.{ClassReady, record_of}
 use Rattle.sheet.specs.declared.Sheet.{Sheet}
-use Rattle.sheet.specs.declared.Value.{Value}
+use Rattle.sheet.specs.Told.{Value}
 use Rattle.stored.specs.Answers.{ReadBy}
 use Rattle.stored.specs.declared.Read.{Read}
 use Rattle.pla.specs.Reading.{PlaSays}

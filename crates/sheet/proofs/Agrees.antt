@@ -14,7 +14,7 @@ use Rattle.classes.specs.declared.Standing.TheVariants.{Out, Either}
 use Rattle.classes.specs.Sound.{CountsSound, ClassSound}
 use Rattle.classes.specs.Standings.{tells, told_by}
 use Rattle.sheet.specs.declared.Sheet.{Sheet}
-use Rattle.sheet.specs.declared.Value.{Value}
+use Rattle.sheet.specs.Told.{Value}
 use Rattle.sheet.specs.Limits.{marks_ok}
 use Rattle.sheet.specs.Record.{Record, in_class, Table, outside_counts, either_counts, held_seconds, kept}
 use Rattle.sheet.specs.Sound.{TimesSound, ClassReady, Ready, record_of, size_of}

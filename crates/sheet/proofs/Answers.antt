@@ -1,7 +1,7 @@
 -- What an opening answers, test by test.
 use Prim.Native.Nat.{ℕ}
 use mathlib.Core.Path.{◌≡◌}
-use Rattle.sheet.specs.declared.Answer.{Answer}
+use Rattle.sheet.specs.Told.{Answer}
 use Rattle.sheet.specs.Answers.{open_of, open_under_of}
 use Rattle.sheet.specs.Record.{sheet_of, opened_under, opened}
 use Rattle.sheet.specs.Limits.{marks_ok}

@@ -9,3 +9,4 @@ pub mod Kept
 pub mod Opened
 pub mod Agrees
 pub mod Settled
+pub mod Results

@@ -10,7 +10,7 @@ use Rattle.boxes.proofs.Sums.{sum-zero}
 use Rattle.profiles.specs.Profiles.{profile_ok, count_ok, profile_of, names_ok}
 use Rattle.profiles.specs.declared.Profile.{Profile}
 use Rattle.profiles.specs.declared.Profile.TheVariants.{None}
-use Rattle.sheet.specs.declared.Answer.{Answer}
+use Rattle.sheet.specs.Told.{Answer}
 use Rattle.sheet.specs.Limits.{marks_ok, most_marks, entries}
 use Rattle.sheet.specs.Record.{sheet_of, opened_under}
 use Rattle.sheet.specs.Sound.{Ready}

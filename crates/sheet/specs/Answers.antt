@@ -5,13 +5,17 @@ use Rattle.profiles.specs.Profiles.{profile_of, names_ok}
 use Rattle.sheet.specs.Limits.{marks_ok}
 use Rattle.sheet.specs.Record.{sheet_of, opened_under, opened, in_class}
 use Rattle.sheet.specs.Sound.{ClassReady, record_of, size_of}
+use Rattle.sheet.specs.Told.{Answer, Value}
 use Rattle.sheet.specs.declared.Sheet.{Sheet}
-use Rattle.sheet.specs.declared.Answer.{Answer}
-use Rattle.sheet.specs.declared.Value.{Value}
+use Rattle.sheet.specs.declared.Refused.{Refused}
+use Rattle.refusals.specs.declared.Refusal.{Refusal}
 
 -- a refused opening gives the sheet of an opened one-mark class
 abbrev pub refused_opening : ℕ → ℕ → Answer
 refused_opening n number = record { number = number; sheet = sheet_of n (opened 1) }
+
+abbrev pub refused : ℕ → Refusal → Refused
+refused n e = record { refusal = e; sheet = sheet_of n (opened 1) }
 
 -- opening: 1 if marks are not 1 to the most
 abbrev pub open_of : ℕ → ℕ → ℕ → Answer

@@ -1,23 +1,23 @@
 // The sheet: marks and carrier profile; for each box an outside count, an either count and held seconds; the calls that open it, and
-// what reads its class. Every call takes any numbers and any sheet, spoiled ones included, and answers by a number of 01's table.
-#![tactic(auto)]
+// what reads its class. Every call takes any numbers and any sheet, spoiled ones included, and what it refuses is a row of 01's table.
+#![tactic(auto, using(crate::proofs::Limits::marks_most, crate::proofs::Over::over, crate::proofs::Over::boxes_within, crate::proofs::Over::some_boxes))]
 
-ghost use Rattle.std.specs.Prelude.{◌≡◌, ◌≤◌, cond};
+ghost use Rattle.std.specs.Prelude.{◌≡◌, ◌≤◌, cond, true};
 ghost use Rattle.ground.specs.Decides.{Decides};
 ghost use Rattle.tables.specs.Tables.{entry, afresh};
 ghost use Rattle.profiles.specs.Profiles.{breaks};
 ghost use Rattle.classes.specs.declared.Standing.TheVariants.{Out, Either};
 ghost use Rattle.sheet.specs.Limits.{most_marks, entries, most_held, most_amount, marks_ok};
 ghost use Rattle.sheet.specs.Record.{sheet_from, sheet_of, opened_under, opened, in_class};
-ghost use Rattle.sheet.specs.Answers.{refused_opening, open_of, open_under_of, ClassSize};
+ghost use Rattle.sheet.specs.Answers.{refused, open_of, open_under_of, ClassSize};
 ghost use Rattle.sheet.specs.Parts.{Addable};
-ghost use Rattle.sheet.specs.Sound.{ClassReady, Ready, record_of, size_of};
-
-mod soundness;
+ghost use Rattle.sheet.specs.Sound.{ClassReady, Ready, TimesSound, record_of, size_of};
+ghost use Rattle.sheet.specs.Told.{opening_of, value_of};
 
 use boxes;
 use classes::Standing;
 use profiles::Profile;
+use refusals::Refusal;
 use tables;
 
 #[derive(Clone, Copy)]
@@ -29,21 +29,34 @@ pub struct Sheet {
     pub held: [u32; Sheet::ENTRIES],
 }
 
-// The number of a call that opens or changes a sheet, and the sheet that is left.
+// A refused opening or reading, with the sheet that it gives: that of an opened one-mark class.
 #[derive(Clone, Copy)]
-pub struct Answer {
-    pub number: u64,
+pub struct Refused {
+    pub refusal: Refusal,
     pub sheet: Sheet,
 }
 
-// The number of a call that only reads, and what it tells.
-#[derive(Clone, Copy)]
-pub struct Value {
-    pub number: u64,
-    pub value: u64,
+impl From<Refusal> for Refused {
+    ghost from_gives = { λ e r. r ≡ refused entries e };
+
+    fn from(refusal: Refusal) -> Refused {
+        Refused {
+            refusal,
+            sheet: Sheet::opened(1),
+        }
+    }
+}
+
+impl From<Refused> for Refusal {
+    ghost from_gives = { λ r e. e ≡ r.refusal };
+
+    fn from(refused: Refused) -> Refusal {
+        refused.refusal
+    }
 }
 
 // Whether a sheet may have m marks.
+#[tactic(auto, unfolding(crate::specs::Limits::marks_ok))]
 pub fn marks_ok(m: usize) -> bool
     ensures { result ≡ marks_ok most_marks m }
 {
@@ -113,27 +126,14 @@ impl Sheet {
         Sheet::opened_under(m, Profile::None)
     }
 
-    // The answer of a refused opening: its number, and the sheet of an opened one-mark class.
-    fn refused_opening(number: u64) -> Answer
-        ensures { result ≡ refused_opening entries number }
-    {
-        Answer {
-            number,
-            sheet: Sheet::opened(1),
-        }
-    }
-
     // A sheet of so many marks, with every combination out and nothing held.
-    pub fn open(marks: usize) -> Answer
-        ensures { result ≡ open_of most_marks entries marks }
+    pub fn open(marks: usize) -> Result<Sheet, Refused>
+        ensures { opening_of result ≡ open_of most_marks entries marks }
     {
-        if marks_ok(marks) {
-            return Answer {
-                number: 0,
-                sheet: Sheet::opened(marks),
-            };
+        if !marks_ok(marks) {
+            return Err(Refusal::Marks.into());
         }
-        Sheet::refused_opening(1)
+        Ok(Sheet::opened(marks))
     }
 
     // The sheet of a class of m marks that is opened under a profile.
@@ -154,66 +154,62 @@ impl Sheet {
     }
 
     // A sheet of so many marks under a profile of these groups: the combinations that break it are either, the others out.
-    pub fn open_under(marks: usize, groups: &[u8]) -> Answer
-        ensures { result ≡ open_under_of most_marks entries marks groups.now }
+    pub fn open_under(marks: usize, groups: &[u8]) -> Result<Sheet, Refused>
+        ensures { opening_of result ≡ open_under_of most_marks entries marks groups.now }
     {
         if !marks_ok(marks) {
-            return Sheet::refused_opening(1);
+            return Err(Refusal::Marks.into());
         }
         if !profiles::names_ok(marks, groups) {
-            return Sheet::refused_opening(13);
+            return Err(Refusal::Profile.into());
         }
-        Answer {
-            number: 0,
-            sheet: Sheet::opened_under(marks, Profile::of(groups)),
-        }
+        Ok(Sheet::opened_under(marks, Profile::of(groups)))
     }
 
     // Whether a call that reads the class can be answered: m is right, and the class table is sound.
-    pub fn class_ready(self) -> bool
-        ensures { Decides result (ClassReady most_marks self) }
+    pub fn class_ready(&self) -> bool
+        ensures { Decides result (ClassReady most_marks self.now) }
     {
-        let m = self.marks;
-        let outside = self.outside;
-        let either = self.either;
-        let profile = self.profile;
-        marks_ok(m) && classes::class_sound(m, profile, &outside, &either)
+        marks_ok(self.marks)
+            && classes::class_sound(self.marks, self.profile, &self.outside, &self.either)
+    }
+
+    // Whether the time table is sound: each entry is the sum over its box, the sheet holds no more than it may, and what is either holds nothing.
+    fn times_sound(&self) -> bool
+        requires { marks_ok most_marks self.now.marks ≡ true }
+        ensures { Decides result (TimesSound self.now.marks self.now.outside self.now.either self.now.held) }
+    {
+        let all = boxes::power3(self.marks) - 1;
+        self.held[all] <= Sheet::MOST_HELD
+            && classes::apart(self.marks, &self.outside, &self.either, &self.held)
+            && tables::sums(self.marks, &self.held)
     }
 
     // Whether a call that reads the class and the times can be answered.
-    pub fn ready(self) -> bool
-        ensures { Decides result (Ready most_marks self) }
+    pub fn ready(&self) -> bool
+        ensures { Decides result (Ready most_marks self.now) }
     {
-        let m = self.marks;
-        let outside = self.outside;
-        let either = self.either;
-        let held = self.held;
-        self.class_ready() && soundness::times_sound(m, &outside, &either, &held)
+        self.class_ready() && self.times_sound()
     }
 
     // How many combinations are in the class, of a sheet whose class table is sound.
-    pub fn size_sound(self) -> u64
-        requires { ClassReady most_marks self }
-        ensures { result ≡ size_of self.marks (in_class (record_of self)) }
+    pub fn size_sound(&self) -> u64
+        requires { ClassReady most_marks self.now }
+        ensures { result ≡ size_of self.now.marks (in_class (record_of self.now)) }
     {
-        let m = self.marks;
-        let all = boxes::power3(m) - 1;
-        (boxes::power2(m) as u64) - (self.outside[all] as u64) - (self.either[all] as u64)
+        let all = boxes::power3(self.marks) - 1;
+        boxes::power2(self.marks) as u64
+            - u64::from(self.outside[all])
+            - u64::from(self.either[all])
     }
 
     // How many combinations are in the class.
-    pub fn class_size(self) -> Value
-        ensures { ClassSize most_marks self result }
+    pub fn class_size(&self) -> Result<u64, Refusal>
+        ensures { ClassSize most_marks self.now (value_of result) }
     {
         if !self.class_ready() {
-            return Value {
-                number: 7,
-                value: 0,
-            };
+            return Err(Refusal::Spoiled);
         }
-        Value {
-            number: 0,
-            value: self.size_sound(),
-        }
+        Ok(self.size_sound())
     }
 }

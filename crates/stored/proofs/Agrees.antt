@@ -6,7 +6,7 @@ use lib.ListN.{length, drop}
 use Rattle.sheet.specs.Record.{Record}
 use Rattle.sheet.specs.Entries.{Agree}
 use Rattle.sheet.specs.declared.Sheet.{Sheet}
-use Rattle.sheet.specs.declared.Value.{Value}
+use Rattle.sheet.specs.Told.{Value}
 use Rattle.sheet.proofs.Agrees.{agree_back, record_same, ready_same}
 use Rattle.stored.specs.Answers.{Writes}
 use Rattle.stored.specs.Form.{form}

@@ -22,7 +22,7 @@ use Rattle.sheet.specs.Limits.{marks_ok}
 use Rattle.sheet.specs.Record.{outside_counts, either_counts, Record, Obeys, sheet_of, opened}
 use Rattle.sheet.specs.Sound.{Ready, size_of, own_in, record_of}
 use Rattle.sheet.specs.declared.Sheet.{Sheet}
-use Rattle.sheet.specs.declared.Value.{Value}
+use Rattle.sheet.specs.Told.{Value}
 use Rattle.sheet.proofs.Limits.{marks_most}
 use Rattle.sheet.proofs.Opening.{sheet_same}
 use Rattle.sheet.proofs.Kept.{class_sound, standing_told, times_sound}

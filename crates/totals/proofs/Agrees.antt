@@ -4,7 +4,7 @@ use mathlib.Core.Path.{sym, subst}
 use Rattle.sheet.specs.Record.{Record}
 use Rattle.sheet.specs.Entries.{Agree}
 use Rattle.sheet.specs.declared.Sheet.{Sheet}
-use Rattle.sheet.specs.declared.Value.{Value}
+use Rattle.sheet.specs.Told.{Value}
 use Rattle.sheet.proofs.Agrees.{agree_back, record_same, ready_same}
 use Rattle.totals.specs.Totals.{total_of, Totalled}
 

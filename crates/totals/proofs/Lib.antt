@@ -1,4 +1,3 @@
-pub mod Taken
 pub mod Settled
 pub mod Lines
 pub mod Agrees

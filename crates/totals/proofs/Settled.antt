@@ -2,7 +2,7 @@
 use Prim.Native.Nat.{ℕ}
 use mathlib.Core.Path.{◌≡◌, refl}
 use Rattle.sheet.specs.declared.Sheet.{Sheet}
-use Rattle.sheet.specs.declared.Value.{Value}
+use Rattle.sheet.specs.Told.{Value}
 use Rattle.totals.specs.Totals.{Totalled}
 
 pub total_settled : {most : ℕ} {s : Sheet} {a z : Value} → Totalled most s a → Totalled most s z → a ≡ z

@@ -4,7 +4,7 @@ use Rattle.boxes.specs.Sums.{sum, only}
 use Rattle.sheet.specs.Record.{Record, in_class}
 use Rattle.sheet.specs.Sound.{Ready, record_of}
 use Rattle.sheet.specs.declared.Sheet.{Sheet}
-use Rattle.sheet.specs.declared.Value.{Value}
+use Rattle.sheet.specs.Told.{Value}
 
 -- what a combination adds to the class total: its seconds, if it is in the class
 abbrev pub taken : (ℕ → Bool) → (ℕ → ℕ) → ℕ → ℕ

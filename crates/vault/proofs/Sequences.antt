@@ -13,7 +13,7 @@ use Rattle.sheet.specs.Limits.{most_marks, entries, marks_ok}
 use Rattle.sheet.specs.Record.{Record, sheet_of, opened_under, opened}
 use Rattle.sheet.specs.Answers.{open_of, open_under_of}
 use Rattle.sheet.specs.declared.Sheet.{Sheet}
-use Rattle.sheet.specs.declared.Answer.{Answer}
+use Rattle.sheet.specs.Told.{Answer}
 use Rattle.sheet.proofs.Answers.{open_done, open_refused, open_under_done, open_under_faulty, open_under_refused}
 use Rattle.stored.specs.Answers.{read_of, Reads}
 use Rattle.stored.specs.Fields.{good}

@@ -5,7 +5,7 @@ use Rattle.sheet.specs.Record.{Record}
 use Rattle.stored.specs.Form.{form}
 use Rattle.histories.specs.Histories.{number_of, after}
 use Rattle.sheet.specs.declared.Sheet.{Sheet}
-use Rattle.sheet.specs.declared.Answer.{Answer}
+use Rattle.sheet.specs.Told.{Answer}
 use Rattle.changes.specs.Calls.{did_of}
 use Rattle.changes.specs.declared.Call.{Call}
 use Rattle.lent.specs.declared.Reply.{Reply}

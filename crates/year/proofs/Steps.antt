@@ -12,8 +12,8 @@ use Rattle.dates.specs.declared.date.Date.{Date}
 use Rattle.sheet.specs.Limits.{most_marks, entries}
 use Rattle.sheet.specs.Record.{sheet_of, opened}
 use Rattle.sheet.specs.declared.Sheet.{Sheet}
-use Rattle.sheet.specs.declared.Answer.{Answer}
-use Rattle.sheet.specs.declared.Value.{Value}
+use Rattle.sheet.specs.Told.{Answer}
+use Rattle.sheet.specs.Told.{Value}
 use Rattle.sheet.proofs.Limits.{marks_most}
 use Rattle.changes.specs.Calls.{did_of}
 use Rattle.changes.specs.declared.Call.{Call}

@@ -1,25 +1,19 @@
-use native.Mathlib.Omega.{arith}
-use Rattle.checking.proofs.Firsts.{passed_none, passed_more, first_here, first_nowhere}
-use Rattle.checking.proofs.Unions.{leaves, leaves_not}
+-- A box leaves the room if its set has a combination that the room has not.
+use Rattle.std.proofs.Common.{rules, ◌≡◌, ◌-◌, bit_and}
+use mathlib.Core.Path.{refl}
+use lib.ListN.{get_or}
+use Rattle.sets.specs.Sets.{value_at}
+use Rattle.checking.specs.Parts.{Sought}
+use Rattle.checking.proofs.Firsts.{sought_by}
+use Rattle.checking.proofs.Unions.{set_at, leaves, leaves_not}
 use Rattle.checking.proofs.leaving.Goals as goal
 
-pub loop-i-init : goal.loop-i-init
-loop-i-init c = (omega arith, passed_none _)
-
-pub set_at-s-requires : goal.set_at-s-requires
-set_at-s-requires c = (c.requires.0, c.requires.1, c.requires.2, c.loop-i-test.true)
-
-pub returns-then-s-room-ne0 : goal.returns-then-s-room-ne0
-returns-then-s-room-ne0 c =
-    let set = c.set_at-s.ensures in
-    let h = c.loop-i-test.true in
-    first_here _ _ _ h c.loop-i.invariant.1 (leaves _ c.args.list.now _ _ h set _ c.ranges.room.fits (omega arith))
-
-pub loop-i-preserved : goal.loop-i-preserved
-loop-i-preserved c =
-    let set = c.set_at-s.ensures in
-    let h = c.loop-i-test.true in
-    (omega (arith, h), passed_more _ _ c.loop-i.invariant.1 (leaves_not _ c.args.list.now _ _ h set _ c.ranges.room.fits (omega arith)))
-
 pub returns : goal.returns
-returns c = first_nowhere _ _ _ c.loop-i.invariant.0 c.loop-i-test.false c.loop-i.invariant.1
+returns c =
+    let a = c.args in
+    let r = c.requires in
+    let found : Sought a.list.now (λ i. bit_and (value_at a.sets.now (get_or a.list.now i 0)) (4294967295 - a.room) ≡ 0 → ⊥) c.position.result = search rules in
+    sought_by a.list.now
+    (λ i h x. leaves a.m a.list.now i _ h (set_at a.m a.sets.now a.list.now i _ r.1 r.2 h refl) a.room c.ranges.room.fits x)
+    (λ i h x z. leaves_not a.m a.list.now i _ h (set_at a.m a.sets.now a.list.now i _ r.1 r.2 h refl) a.room c.ranges.room.fits z x)
+    c.position.result found

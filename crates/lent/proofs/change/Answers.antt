@@ -4,7 +4,7 @@ use mathlib.Core.Path.{sym, subst}
 use Rattle.stored.specs.declared.Layout.TheVariants.{Today}
 use Rattle.sheet.specs.Limits.{most_marks}
 use Rattle.sheet.specs.Sound.{Ready}
-use Rattle.sheet.specs.declared.Answer.{Answer}
+use Rattle.sheet.specs.Told.{Answer}
 use Rattle.changes.proofs.Keeps.{ready_kept}
 use Rattle.lent.specs.Entries.ChangesBy.{unread}
 use Rattle.lent.specs.Entries.{no_reply}

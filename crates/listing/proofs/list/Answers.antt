@@ -5,9 +5,3 @@ use Rattle.listing.proofs.list.Goals as goal
 
 pub returns-then-not-class_ready : goal.returns-then-not-class_ready
 returns-then-not-class_ready c = spoiled (denied c.class_ready.ensures c.if-not-class_ready.true)
-
-pub list_sound-requires : goal.list_sound-requires
-list_sound-requires c = c.class_ready.ensures.yes c.if-not-class_ready.false
-
-pub returns : goal.returns
-returns c = c.list_sound.ensures

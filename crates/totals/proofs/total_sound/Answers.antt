@@ -1,20 +1,17 @@
--- The loop's sum is the definition's.
-use mathlib.Core.Path.{◌≡◌}
+use mathlib.Core.Path.{refl, sym, ap}
 use native.Mathlib.Omega.{arith}
-use lib.ListN.{length}
-use borrow.Author.Rules.{rules}
-use Rattle.sheet.proofs.Limits.{marks_most}
-use Rattle.sheet.specs.Limits.{entries, most_marks}
+use native.Mathlib.Numerals.{add-one}
+use Rattle.boxes.specs.Sums.{sum}
+use Rattle.totals.proofs.total_sound.Invariants.{upto}
 use Rattle.totals.proofs.total_sound.Goals as goal
-use Rattle.totals.proofs.total_sound.Goals.{Start}
 
-long : (c : Start) → (length c.args.sheet.outside ≡ entries) × (length c.args.sheet.either ≡ entries) × (length c.args.sheet.held ≡ entries)
-long c = (search rules, search rules, search rules)
+pub loop-c-init : goal.loop-c-init
+unfolding sum
+loop-c-init c = (c.power2-c-end.ensures.0, omega arith, refl)
 
-pub in_class-requires : goal.in_class-requires
-in_class-requires c =
-    let l = long (goal.at.in_class-requires c).Start in
-    (marks_most most_marks _ c.requires.marks, omega arith, omega arith, omega arith)
-
-pub returns : goal.returns
-returns c = c.in_class.ensures c.args.sheet.profile
+pub loop-c-preserved : goal.loop-c-preserved
+unfolding sum
+loop-c-preserved c =
+    let l = c.loop-c in
+    let s = c.args.sheet.now in
+    (l.invariant.0, omega arith, rw (l.invariant.2, c.seconds_of-total.ensures.0) (ap (upto s) (sym (add-one l.c))))

@@ -2,7 +2,7 @@
 use mathlib.Core.Path.{sym, subst}
 use Rattle.sheet.specs.Limits.{most_marks}
 use Rattle.sheet.specs.Sound.{Ready}
-use Rattle.sheet.specs.declared.Answer.{Answer}
+use Rattle.sheet.specs.Told.{Answer}
 use Rattle.sheet.proofs.Opened.{open_under_ready}
 use Rattle.lent.proofs.Replies.{put_as}
 use Rattle.vault.proofs.vault_open_profile.Goals as goal
