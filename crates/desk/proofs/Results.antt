@@ -20,7 +20,11 @@ use Rattle.sheet.specs.Record.{Record, in_class, held_seconds, sheet_of}
 use Rattle.sheet.specs.Sound.{size_of}
 use Rattle.sheet.specs.Answers.{ClassSize}
 use Rattle.sheet.specs.declared.Sheet.{Sheet}
-use Rattle.sheet.specs.Told.{Value}
+use Rattle.sheet.specs.Told.{Value, value_of}
+use Rattle.std.specs.Prelude.{Result as Told, Ok, Err}
+use Rattle.std.specs.Result.{result_unwrap_or}
+use Rattle.refusals.specs.Numbers.{number_of as number_in}
+use Rattle.refusals.specs.declared.Refusal.{Refusal}
 use Rattle.sheet.proofs.Opening.{combinations_fit}
 use Rattle.sheet.proofs.Limits.{boxes_fit, marks_most}
 use Rattle.listing.specs.Listing.{Listed}
@@ -33,6 +37,11 @@ use Rattle.machine.proofs.Laid.{wrote_three}
 use Rattle.desk.specs.Prints.{heads, box_lines, last_line, page}
 use Rattle.desk.specs.Parts.{OfRecord, Printed, HaveEntries, line_room, result_room}
 use Rattle.desk.proofs.Texts.{heads-length, last_length, lines_same, boxes_below}
+
+-- a value, or 0 for a refusal
+pub valued : (a : Told ℕ Refusal) {n : ℕ} → n ≡ result_unwrap_or a 0 → value_of a ≡ record { number = (value_of a).number; value = n }
+valued (Ok x) e = ap (λ (n : ℕ). record { number = 0; value = n }) (sym e)
+valued (Err r) e = ap (λ (n : ℕ). record { number = number_in r; value = n }) (sym e)
 
 ones_le : (n : ℕ) (class : ℕ → Bool) → sum n (λ c. only (class c) 1) ≤ n
 unfolding sum

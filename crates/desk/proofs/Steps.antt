@@ -5,6 +5,10 @@ use mathlib.Core.Bool.{Bool, cond}
 use mathlib.Core.List.{List, []}
 use native.Mathlib.Omega.{arith}
 use borrow.Author.Tests.{ne_eqb}
+use Rattle.std.specs.Prelude.{Result as Told, Ok, Err}
+use Rattle.refusals.specs.Numbers.{number_of as number_in}
+use Rattle.refusals.specs.declared.Refusal.{Refusal}
+use Rattle.refusals.specs.declared.Refusal.TheVariants.{Marks, Combination, Standing, Amount, Room, Spoiled, Above, Below, Unreadable, Date, Either, Profile}
 use Rattle.ground.specs.Areas.{Wrote}
 use Rattle.ground.proofs.Areas.{wrote_none, wrote_text}
 use Rattle.ground.proofs.Cases.{if, clash}
@@ -12,7 +16,7 @@ use Rattle.sheet.specs.Limits.{most_marks, entries, marks_ok}
 use Rattle.sheet.specs.Record.{Record, sheet_of, opened}
 use Rattle.sheet.specs.Answers.{open_of}
 use Rattle.sheet.specs.declared.Sheet.{Sheet}
-use Rattle.sheet.specs.Told.{Answer}
+use Rattle.sheet.specs.Told.{Answer, answer_of}
 use Rattle.changes.specs.Calls.{did_of}
 use Rattle.changes.specs.declared.Call.{Call}
 use Rattle.histories.specs.Histories.{number_of, after}
@@ -26,14 +30,14 @@ use Rattle.machine.proofs.Outputs.{stepped_one, stopped_one}
 use Rattle.machine.proofs.Steps.{answered}
 use Rattle.lines.specs.declared.Order.{Order}
 use Rattle.times.specs.declared.Form.{Form}
-use Rattle.lines.specs.declared.Order.TheVariants.{Make, End, Unreadable}
+use Rattle.lines.specs.declared.Order.TheVariants.{Make, End, Unreadable as NotRead}
 use Rattle.lines.specs.declared.First.{First}
-use Rattle.lines.specs.declared.First.TheVariants.{Marks, NotMarks}
+use Rattle.lines.specs.declared.First.TheVariants.{Marks as SomeMarks, NotMarks}
 use Rattle.lines.specs.Words.{RowAsks, RowOpens}
 use Rattle.lines.proofs.Settled.{row_opens_settled}
 use Rattle.desk.specs.Prints.{first_number, first_record, State, first, going, over, opens, shut, made, unread, ended, Step, Stop, holdings}
 use Rattle.desk.specs.States.{desk_of, kind, In, Stepped, SteppedTo}
-use Rattle.desk.specs.Parts.{OfRecord, SheetOfRecord, FirstAnswered, FirstTaken, LaterTaken, Printed}
+use Rattle.desk.specs.Parts.{OfRecord, SheetOfRecord, FirstAnswered, FirstTaken, LaterTaken, Printed, answer_number}
 use Rattle.desk.proofs.Outputs.{one_answer, good_step}
 use Rattle.desk.specs.declared.stages.Desk.{Desk}
 use Rattle.desk.specs.declared.stages.Desk.TheVariants.{Opening, Going, Over}
@@ -44,10 +48,10 @@ pub first_lost : {row : Row} {f : First} {sheet : Sheet} → RowOpens row f → 
     → FirstAnswered row (record { number = 10; sheet = sheet })
 first_lost {row} w q e = record { says = NotMarks; opens = subst (RowOpens row) q w; is = ap (λ (s : Sheet). record { number = 10; sheet = s }) e }
 
-pub first_marks : {row : Row} {f : First} {n : ℕ} {a : Answer} → RowOpens row f → f ≡ Marks n → a ≡ open_of most_marks entries n → FirstAnswered row a
-first_marks {row} {n = n} w q e = record { says = Marks n; opens = subst (RowOpens row) q w; is = e ∙ go }
+pub first_marks : {row : Row} {f : First} {n : ℕ} {a : Answer} → RowOpens row f → f ≡ SomeMarks n → a ≡ open_of most_marks entries n → FirstAnswered row a
+first_marks {row} {n = n} w q e = record { says = SomeMarks n; opens = subst (RowOpens row) q w; is = e ∙ go }
   where
-    go : ◌≡◌ {A = Answer} (open_of most_marks entries n) (record { number = first_number (Marks n); sheet = sheet_of entries (first_record (Marks n)) })
+    go : ◌≡◌ {A = Answer} (open_of most_marks entries n) (record { number = first_number (SomeMarks n); sheet = sheet_of entries (first_record (SomeMarks n)) })
     go = if (marks_ok most_marks n) (λ q. rw q) (λ q. rw q)
 
 pub first_settled : {row : Row} {a b : Answer} → FirstAnswered row a → FirstAnswered row b → a ≡ b
@@ -55,11 +59,40 @@ first_settled f g =
     f.is ∙ ap (λ (x : First). record { number = first_number x; sheet = sheet_of entries (first_record x) }) (row_opens_settled f.opens g.opens) ∙ sym g.is
 
 -- a refusal is what is spoken where there is one
-spoken_refusal : (k a : ℕ) → (a ≡ 0 → ⊥) → spoken k a ≡ refusal k a
+pub spoken_refusal : (k a : ℕ) → (a ≡ 0 → ⊥) → spoken k a ≡ refusal k a
 spoken_refusal k a n = ap (λ (b : Bool). cond b [] (refusal k a)) (ne_eqb a 0 n)
 
 pub refusal_short : (k a : ℕ) {w : ℕ} {out later : List ℕ} → (a ≡ 0 → ⊥) → Wrote out 0 (refusal k a) w later → k < 2 ^ 64 → a < 2 ^ 64 → w ≤ page_room
 refusal_short k a n p h l = spoken_short k a (wrote_text (sym (spoken_refusal k a n)) p) h l
+
+refusal_small : (e : Refusal) → number_in e < 2 ^ 64
+refusal_small Marks = omega arith
+refusal_small Combination = omega arith
+refusal_small Standing = omega arith
+refusal_small Amount = omega arith
+refusal_small Room = omega arith
+refusal_small Spoiled = omega arith
+refusal_small Above = omega arith
+refusal_small Below = omega arith
+refusal_small (Unreadable p) = omega arith
+refusal_small Date = omega arith
+refusal_small Either = omega arith
+refusal_small Profile = omega arith
+
+pub answer_told : (a : Told (Unit {0}) Refusal) (s : Sheet) → (answer_of a s).number ≡ answer_number a
+answer_told (Ok x) s = refl
+answer_told (Err e) s = refl
+
+pub answer_sheet : (a : Told (Unit {0}) Refusal) (s : Sheet) → (answer_of a s).sheet ≡ s
+answer_sheet (Ok x) s = refl
+answer_sheet (Err e) s = refl
+
+answer_small : (a : Told (Unit {0}) Refusal) → answer_number a < 2 ^ 64
+answer_small (Ok x) = omega arith
+answer_small (Err e) = refusal_small e
+
+pub answer_short : (k : ℕ) (a : Told (Unit {0}) Refusal) {w : ℕ} {out later : List ℕ} → Wrote out 0 (spoken k (answer_number a)) w later → k < 2 ^ 64 → w ≤ page_room
+answer_short k a p h = spoken_short k (answer_number a) p h (answer_small a)
 
 -- line 1
 
@@ -90,16 +123,17 @@ module _ {sheet : Sheet} {r : Record} (of : OfRecord sheet r) where
     asks e = subst (RowAsks r.marks row) e (subst (λ (s : Sheet). RowAsks s.marks row o) of.is asked)
 
     module _ {k w : ℕ} {out later : List ℕ} where
-      pub later_made : {c : Call} {f : Form} {a : Answer} → o ≡ Make c f → a ≡ did_of most_marks sheet c → Wrote out 0 (spoken k a.number) w later → w ≤ page_room
-          → LaterTaken k r row out (Going a.sheet) w later
-      later_made {c} {a = a} q e p short =
-          let is : a ≡ record { number = number_of r c; sheet = sheet_of entries (after r c) } =
-          e ∙ ap (λ (s : Sheet). did_of most_marks s c) of.is ∙ did_kept r of.good c in
-          answered (going (after r c)) (number_of r c) (made (asks q)) (ap (λ (x : Answer). Going x.sheet) is)
-          (ap (λ (x : Answer). x.number) is) p short
+      module _ {d : Desk} {answer : Told (Unit {0}) Refusal} (laid : Wrote out 0 (spoken k (answer_number answer)) w later) (short : w ≤ page_room) where
+        pub later_made : {c : Call} {f : Form} {a : Told (Unit {0}) Refusal} {s : Sheet} → o ≡ Make c f → answer_of a s ≡ did_of most_marks sheet c → answer ≡ a
+            → d ≡ Going s → LaterTaken k r row out d w later
+        later_made {c} {a = a} {s = s} q did same is =
+            let told : answer_of a s ≡ record { number = number_of r c; sheet = sheet_of entries (after r c) } =
+            did ∙ ap (λ (x : Sheet). did_of most_marks x c) of.is ∙ did_kept r of.good c in
+            answered (going (after r c)) (number_of r c) (made (asks q)) (is ∙ ap Going (sym (answer_sheet a s) ∙ ap (λ (x : Answer). x.sheet) told))
+            (ap answer_number same ∙ sym (answer_told a s) ∙ ap (λ (x : Answer). x.number) told) laid short
 
-      pub later_unread : o ≡ Unreadable → Wrote out 0 (spoken k 10) w later → w ≤ page_room → LaterTaken k r row out (Going sheet) w later
-      later_unread q p short = answered (going r) 10 (unread (asks q)) (ap Going of.is) refl p short
+        pub later_unread : o ≡ NotRead → answer ≡ Err (Unreadable 0) → d ≡ Going sheet → LaterTaken k r row out d w later
+        later_unread q same is = answered (going r) 10 (unread (asks q)) (is ∙ ap Going of.is) (ap answer_number same) laid short
 
       pub later_ended : o ≡ End → Printed r out 0 w later → LaterTaken k r row out Over w later
       later_ended q p = record { state = over r; said = p.text; step = ended (asks q) p.result; is = refl; laid = p.wrote; short = omega (arith, p.short) }

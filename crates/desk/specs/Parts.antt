@@ -1,6 +1,8 @@
 -- What the functions of the desk tell each other.
-use Rattle.std.specs.Prelude.{ℕ, ◌+◌, ◌*◌, ◌≤◌, ◌<◌, ◌≡◌, List, length, get_or}
+use Rattle.std.specs.Prelude.{ℕ, ◌+◌, ◌*◌, ◌≤◌, ◌<◌, ◌≡◌, Result as Told, Ok, Err, List, length, get_or}
 use Rattle.ground.specs.Areas.{Wrote}
+use Rattle.refusals.specs.Numbers.{number_of}
+use Rattle.refusals.specs.declared.Refusal.{Refusal}
 use Rattle.lists.specs.Lists.{most_lines}
 use Rattle.sheet.specs.Limits.{most_marks, entries}
 use Rattle.sheet.specs.Record.{Record, sheet_of}
@@ -28,6 +30,11 @@ pub record FirstAnswered (row : Row) (a : Answer) : Type 0 where
   pub says : First
   pub opens : RowOpens row says
   pub is : a ≡ record { number = first_number says; sheet = sheet_of entries (first_record says) }
+
+-- what a call is answered
+abbrev pub answer_number : Told (Unit {0}) Refusal → ℕ
+answer_number (Ok x) = 0
+answer_number (Err e) = number_of e
 
 -- line k was taken as line 1, and as a later line
 abbrev pub FirstTaken : ℕ → Row → List ℕ → Desk → ℕ → List ℕ → Type 0

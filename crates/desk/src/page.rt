@@ -60,20 +60,18 @@ fn put_total(out: &mut [u8], at: usize, seconds: u64) -> usize
     ground::put_byte(out, b, b'\n')
 }
 
-// The result of a sheet that was worked out afresh from a record: no call that reads it is refused.
-pub fn result(out: &mut [u8], at: usize, sheet: Sheet) -> usize
-    requires sheet_of_record { SheetOfRecord sheet }
+// The result of a sheet that was worked out afresh from a record: no call that reads it is refused (`never_refused`), and no 0 stands for a refusal.
+pub fn result(out: &mut [u8], at: usize, sheet: &Sheet) -> usize
+    requires sheet_of_record { SheetOfRecord sheet.now }
     requires result_room_in_bounds { at + result_room ≤ length out.old }
-    ensures { (r : Record) → OfRecord sheet r → Printed r out.old at result out.new }
+    ensures { (r : Record) → OfRecord sheet.now r → Printed r out.old at result out.new }
 {
-    let m = sheet.marks;
-    let held = sheet.held;
-    let size = sheet.class_size();
+    let size = sheet.class_size().unwrap_or(0);
     let mut area = listing::area();
-    let count = listing::list(sheet, &mut area);
-    let total = totals::total(sheet);
-    let n = count.value as usize;
-    let a = put_heads(out, at, size.value, count.value);
-    let b = put_lines(out, a, m, &held, &area[..n]);
-    put_total(out, b, total.value)
+    let count = listing::list(sheet, &mut area).unwrap_or(0);
+    let total = totals::total(sheet).unwrap_or(0);
+    let n = count as usize;
+    let a = put_heads(out, at, size, count);
+    let b = put_lines(out, a, sheet.marks, &sheet.held, &area[..n]);
+    put_total(out, b, total)
 }

@@ -1,10 +1,13 @@
 // The desk: what a line leads to and prints, and what the end of the input prints.
 ghost use Rattle.std.specs.Prelude.{◌≡◌, ◌+◌, ◌≤◌, length};
-ghost use Rattle.machine.specs.AtHand.{row_of, LineFits};
+ghost use Rattle.ground.specs.Areas.{Wrote};
+ghost use Rattle.sheet.specs.Told.{opening_of};
+ghost use Rattle.machine.specs.Machine.{spoken as spoken_text};
+ghost use Rattle.machine.specs.AtHand.{row_of, refusal_room, LineFits};
 ghost use Rattle.machine.specs.Steps.{page_room};
 ghost use Rattle.desk.specs.Prints.{first};
 ghost use Rattle.desk.specs.States.{kind};
-ghost use Rattle.desk.specs.Parts.{FirstAnswered, FirstTaken};
+ghost use Rattle.desk.specs.Parts.{FirstAnswered, FirstTaken, answer_number};
 
 use crate::page;
 use changes;
@@ -12,7 +15,8 @@ use lines;
 use lines::{First, Order};
 use machine;
 use machine::{Line, Program};
-use sheet::{Answer, Sheet};
+use refusals::Refusal;
+use sheet::{Refused, Sheet};
 
 // In front of line 1, behind it, or over.
 #[derive(Clone, Copy)]
@@ -22,17 +26,26 @@ pub enum Desk {
     Over,
 }
 
-// What the line at hand is answered as line 1, and the sheet that it opens.
-pub fn first_answer(line: Line) -> Answer
-    requires { LineFits line }
-    ensures { FirstAnswered (row_of line) result }
+// What the line at hand opens as line 1.
+pub fn first_answer(line: &Line) -> Result<Sheet, Refused>
+    requires { LineFits line.now }
+    ensures { FirstAnswered (row_of line.now) (opening_of result) }
 {
-    let first = lines::first_of(line);
-    let First::Marks(m) = first else {
-        let sheet = Sheet::opened(1);
-        return Answer { number: 10, sheet };
+    let First::Marks(m) = lines::first_of(*line) else {
+        return Err(Refusal::Unreadable(0).into());
     };
     Sheet::open(m)
+}
+
+// Lays what a call is answered: nothing where it was done.
+pub fn spoken(out: &mut [u8], number: u64, answer: Result<(), Refusal>) -> usize
+    requires { refusal_room ≤ length out.old }
+    ensures { Wrote out.old 0 (spoken_text number (answer_number answer)) result out.new }
+{
+    match answer {
+        Ok(()) => 0,
+        Err(refusal) => machine::refusal(out, number, refusal.number()),
+    }
 }
 
 impl Desk {
@@ -42,13 +55,16 @@ impl Desk {
         requires page_room_in_bounds { page_room ≤ length out.old }
         ensures { FirstTaken line.now.number (row_of line.now) out.old self.new result out.new }
     {
-        let a = first_answer(*line);
-        if a.number == 0 {
-            *self = Desk::Going(a.sheet);
-            return 0;
+        match first_answer(line) {
+            Ok(sheet) => {
+                *self = Desk::Going(sheet);
+                0
+            }
+            Err(refused) => {
+                *self = Desk::Over;
+                machine::refusal(out, line.number, refused.refusal.number())
+            }
         }
-        *self = Desk::Over;
-        machine::refusal(out, line.number, a.number)
     }
 }
 
@@ -69,26 +85,25 @@ impl Program for Desk {
     fn step(&mut self, line: &Line, out: &mut [u8]) -> usize {
         match self {
             Desk::Opening => self.first_line(line, out),
-            Desk::Going(sheet) => match lines::order_of(*line, sheet.marks) {
-                Order::Make(call, _) => {
-                    let a = changes::did(*sheet, call);
-                    *sheet = a.sheet;
-                    machine::spoken(out, line.number, a.number)
-                }
-                Order::Unreadable => machine::refusal(out, line.number, 10),
-                Order::End => {
-                    let wrote = page::result(out, 0, *sheet);
-                    *self = Desk::Over;
-                    wrote
-                }
-            },
+            Desk::Going(sheet) => {
+                let answer = match lines::order_of(*line, sheet.marks) {
+                    Order::Make(call, _) => changes::did(sheet, call),
+                    Order::Unreadable => Err(Refusal::Unreadable(0)),
+                    Order::End => {
+                        let wrote = page::result(out, 0, sheet);
+                        *self = Desk::Over;
+                        return wrote;
+                    }
+                };
+                spoken(out, line.number, answer)
+            }
             Desk::Over => 0,
         }
     }
 
     fn stop(&self, out: &mut [u8], at: usize) -> usize {
         match self {
-            Desk::Going(sheet) => page::result(out, at, *sheet),
+            Desk::Going(sheet) => page::result(out, at, sheet),
             Desk::Opening => at,
             Desk::Over => at,
         }
