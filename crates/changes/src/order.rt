@@ -20,7 +20,7 @@ use tables::Shift;
 
 // A combination that a sheet has, and its own box.
 #[derive(Clone, Copy)]
-pub struct Combination<'a> {
+struct Combination<'a> {
     sheet: &'a Sheet,
     c: usize,
     own: usize,

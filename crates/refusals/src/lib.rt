@@ -33,7 +33,7 @@ pub enum Refusal {
 }
 
 impl Refusal {
-    // Its number in 01's table, never 0.
+    // Its number in 01's table, never 0. Here alone the numbers are written out: the desk prints them and C gets them.
     pub fn number(self) -> u64
         ensures { result ≡ number_of self }
     {

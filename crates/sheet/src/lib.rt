@@ -20,6 +20,7 @@ use profiles::Profile;
 use refusals::Refusal;
 use tables;
 
+// Three tables, each tested, moved and summed as a whole: their names stand in the theorems of `kept` and `sheet_with`.
 #[derive(Clone, Copy)]
 pub struct Sheet {
     pub marks: usize,
@@ -126,7 +127,7 @@ impl Sheet {
         Sheet::opened_under(m, Profile::None)
     }
 
-    // A sheet of so many marks, with every combination out and nothing held.
+    // A sheet of so many marks, with every combination out and nothing held. It is no case of `open_under`: by `open_under_of` no groups are a fault.
     pub fn open(marks: usize) -> Result<Sheet, Refused>
         ensures { opening_of result ≡ open_of most_marks entries marks }
     {
@@ -144,6 +145,7 @@ impl Sheet {
         let n = boxes::power2(m);
         let mut outs = [0u32; 32];
         let mut eithers = [0u32; 32];
+        // an index serves two tables at once; an iterator over both is no plainer
         for c in 0..n {
             let to = opened_as(m, profile, c);
             outs[c] = classes::outs(to);
