@@ -10,16 +10,15 @@ ghost use Rattle.times.specs.Answers.{form_number, Answered};
 ghost use Rattle.times.specs.Parts.{UpTo, Follows, Led, Paired, Ended, After, Two, place_of, placed_on};
 ghost use Rattle.times.specs.declared.Form.TheVariants.{Hours};
 
-// The form in which a running time is written; NoTime where there is none.
-#[derive(Clone, Copy)]
+// The form in which a running time is written.
+#[derive(Clone, Copy, Debug, PartialEq, Eq)]
 pub enum Form {
-    NoTime,
     Minutes,
     Hours,
 }
 
 // The seconds and their form, or the place: the length of the longest beginning that is also the beginning of some readable text.
-#[derive(Clone, Copy)]
+#[derive(Clone, Copy, Debug, PartialEq, Eq)]
 pub enum Time {
     Value(u64, Form),
     Fault(usize),
@@ -27,7 +26,7 @@ pub enum Time {
 
 // The reply to a text, for C too: 0 with the value and the number of its form, or 10 with the place.
 #[repr(C)]
-#[derive(Clone, Copy)]
+#[derive(Clone, Copy, Debug, PartialEq, Eq)]
 pub struct Reading {
     pub answer: u64,
     pub place: u64,
@@ -206,13 +205,13 @@ pub fn read(text: &[u8]) -> Time
 }
 
 // The number of a form: 0 for none, 1 for minutes, 2 for hours.
-fn form_number(f: Form) -> u64
+fn form_number(f: Option<Form>) -> u64
     ensures { result ≡ form_number f }
 {
     match f {
-        Form::NoTime => 0,
-        Form::Minutes => 1,
-        Form::Hours => 2,
+        None => 0,
+        Some(Form::Minutes) => 1,
+        Some(Form::Hours) => 2,
     }
 }
 
@@ -227,13 +226,13 @@ pub fn answer(text: &[u8]) -> Reading
             answer: 10,
             place: p as u64,
             value: 0,
-            form: form_number(Form::NoTime),
+            form: form_number(None),
         };
     };
     Reading {
         answer: 0,
         place: 0,
         value,
-        form: form_number(form),
+        form: form_number(Some(form)),
     }
 }
