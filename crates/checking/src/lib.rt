@@ -117,11 +117,11 @@ fn judged(m: usize, need: u32, room: u32, list: &[u8]) -> Finding
         return Finding::Faulty(Fault::NoBox, unknown);
     }
     let sets = sets::sets();
-    let union = united(m, &sets, list);
+    let union = united(m, sets, list);
     if union.end < n {
         return Finding::Faulty(Fault::Overlap, union.end);
     }
-    let leaves = leaving(m, &sets, room, list);
+    let leaves = leaving(m, sets, room, list);
     if leaves < n {
         return Finding::Faulty(Fault::Leaves, leaves);
     }

@@ -128,12 +128,12 @@ pub fn shortest(m: usize, need: u32, room: u32, area: &mut [u8]) -> usize
 {
     let sets = sets::sets();
     let singles = sets::singles();
-    let known = costs::weighed(m, &sets, &singles, need, room);
+    let known = costs::weighed(m, sets, &singles, need, room);
     let costs = known.costs;
     let plus = known.plus;
     let minus = known.minus;
     let mut k: usize = 0;
-    while !of_size(m, &sets, &singles, &costs, need, room, k, plus, minus, area) {
+    while !of_size(m, sets, &singles, &costs, need, room, k, plus, minus, area) {
         k += 1;
     }
     k
