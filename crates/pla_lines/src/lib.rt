@@ -11,7 +11,7 @@ ghost use Rattle.pla_lines.specs.declared.Heard.TheVariants.{Unreadable};
 mod sayings;
 mod words;
 
-// What was heard. A number that does not fit in 64 bits is told as the largest that does.
+// What was heard; that a line says nothing is one of the answers. A number that does not fit in 64 bits is told as the largest that does.
 #[derive(Clone, Copy, Debug, PartialEq, Eq)]
 pub enum Heard {
     Blank,

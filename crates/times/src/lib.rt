@@ -17,6 +17,7 @@ pub enum Form {
 }
 
 // The seconds and their form, or the place: the length of the longest beginning that is also the beginning of some readable text.
+// It stays an enum of its own, since `ReadsAs` and the theorems over it (`read_settled`, `time_decided`) speak of these two cases.
 #[derive(Clone, Copy, Debug, PartialEq, Eq)]
 pub enum Time {
     Value(u64, Form),
@@ -35,7 +36,7 @@ impl Time {
     }
 }
 
-// The reply to a text, for C too: 0 with the value and the number of its form, or 10 with the place.
+// The reply to a text, for C too: 0 with the value and the number of its form, or 10 with the place. Four numbers, as `vault_read_time` hands them to C.
 #[repr(C)]
 #[derive(Clone, Copy, Debug, PartialEq, Eq)]
 pub struct Reading {
