@@ -5,7 +5,7 @@ use mathlib.Core.Bool.{Bool, cond}
 use mathlib.Core.List.{List, []}
 use native.Mathlib.Omega.{arith}
 use borrow.Author.Tests.{ne_eqb}
-use Rattle.std.specs.Prelude.{Result as Told, Ok, Err}
+use Rattle.std.specs.Prelude.{Option, Some, None, Result as Told, Ok, Err}
 use Rattle.refusals.specs.Numbers.{number_of as number_in}
 use Rattle.refusals.specs.declared.Refusal.{Refusal}
 use Rattle.refusals.specs.declared.Refusal.TheVariants.{Marks, Combination, Standing, Amount, Room, Spoiled, Above, Below, Unreadable, Date, Either, Profile}
@@ -31,8 +31,6 @@ use Rattle.machine.proofs.Steps.{answered}
 use Rattle.lines.specs.declared.Order.{Order}
 use Rattle.times.specs.declared.Form.{Form}
 use Rattle.lines.specs.declared.Order.TheVariants.{Make, End, Unreadable as NotRead}
-use Rattle.lines.specs.declared.First.{First}
-use Rattle.lines.specs.declared.First.TheVariants.{Marks as SomeMarks, NotMarks}
 use Rattle.lines.specs.Words.{RowAsks, RowOpens}
 use Rattle.lines.proofs.Settled.{row_opens_settled}
 use Rattle.desk.specs.Prints.{first_number, first_record, State, first, going, over, opens, shut, made, unread, ended, Step, Stop, holdings}
@@ -44,19 +42,19 @@ use Rattle.desk.specs.declared.stages.Desk.TheVariants.{Opening, Going, Over}
 
 -- what line 1 is answered
 
-pub first_lost : {row : Row} {f : First} {sheet : Sheet} → RowOpens row f → f ≡ NotMarks → sheet ≡ sheet_of entries (opened 1)
+pub first_lost : {row : Row} {f : Option ℕ} {sheet : Sheet} → RowOpens row f → f ≡ None → sheet ≡ sheet_of entries (opened 1)
     → FirstAnswered row (record { number = 10; sheet = sheet })
-first_lost {row} w q e = record { says = NotMarks; opens = subst (RowOpens row) q w; is = ap (λ (s : Sheet). record { number = 10; sheet = s }) e }
+first_lost {row} w q e = record { says = None; opens = subst (RowOpens row) q w; is = ap (λ (s : Sheet). record { number = 10; sheet = s }) e }
 
-pub first_marks : {row : Row} {f : First} {n : ℕ} {a : Answer} → RowOpens row f → f ≡ SomeMarks n → a ≡ open_of most_marks entries n → FirstAnswered row a
-first_marks {row} {n = n} w q e = record { says = SomeMarks n; opens = subst (RowOpens row) q w; is = e ∙ go }
+pub first_marks : {row : Row} {f : Option ℕ} {n : ℕ} {a : Answer} → RowOpens row f → f ≡ Some n → a ≡ open_of most_marks entries n → FirstAnswered row a
+first_marks {row} {n = n} w q e = record { says = Some n; opens = subst (RowOpens row) q w; is = e ∙ go }
   where
-    go : ◌≡◌ {A = Answer} (open_of most_marks entries n) (record { number = first_number (SomeMarks n); sheet = sheet_of entries (first_record (SomeMarks n)) })
+    go : ◌≡◌ {A = Answer} (open_of most_marks entries n) (record { number = first_number (Some n); sheet = sheet_of entries (first_record (Some n)) })
     go = if (marks_ok most_marks n) (λ q. rw q) (λ q. rw q)
 
 pub first_settled : {row : Row} {a b : Answer} → FirstAnswered row a → FirstAnswered row b → a ≡ b
 first_settled f g =
-    f.is ∙ ap (λ (x : First). record { number = first_number x; sheet = sheet_of entries (first_record x) }) (row_opens_settled f.opens g.opens) ∙ sym g.is
+    f.is ∙ ap (λ (x : Option ℕ). record { number = first_number x; sheet = sheet_of entries (first_record x) }) (row_opens_settled f.opens g.opens) ∙ sym g.is
 
 -- a refusal is what is spoken where there is one
 pub spoken_refusal : (k a : ℕ) → (a ≡ 0 → ⊥) → spoken k a ≡ refusal k a
@@ -124,7 +122,7 @@ module _ {sheet : Sheet} {r : Record} (of : OfRecord sheet r) where
 
     module _ {k w : ℕ} {out later : List ℕ} where
       module _ {d : Desk} {answer : Told (Unit {0}) Refusal} (laid : Wrote out 0 (spoken k (answer_number answer)) w later) (short : w ≤ page_room) where
-        pub later_made : {c : Call} {f : Form} {a : Told (Unit {0}) Refusal} {s : Sheet} → o ≡ Make c f → answer_of a s ≡ did_of most_marks sheet c → answer ≡ a
+        pub later_made : {c : Call} {f : Option Form} {a : Told (Unit {0}) Refusal} {s : Sheet} → o ≡ Make c f → answer_of a s ≡ did_of most_marks sheet c → answer ≡ a
             → d ≡ Going s → LaterTaken k r row out d w later
         later_made {c} {a = a} {s = s} q did same is =
             let told : answer_of a s ≡ record { number = number_of r c; sheet = sheet_of entries (after r c) } =

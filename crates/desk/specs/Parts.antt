@@ -10,7 +10,6 @@ use Rattle.sheet.specs.declared.Sheet.{Sheet}
 use Rattle.sheet.specs.Told.{Answer}
 use Rattle.histories.specs.Histories.{Good}
 use Rattle.machine.specs.Rows.{Row}
-use Rattle.lines.specs.declared.First.{First}
 use Rattle.lines.specs.Words.{RowOpens}
 use Rattle.machine.specs.Steps.{SteppedBy}
 use Rattle.desk.specs.Prints.{Result, first_number, first_record, first, going, holdings}
@@ -27,7 +26,7 @@ SheetOfRecord sheet = (r : Record) × OfRecord sheet r
 
 -- what line 1 is answered, and the sheet that it opens
 pub record FirstAnswered (row : Row) (a : Answer) : Type 0 where
-  pub says : First
+  pub says : Option ℕ
   pub opens : RowOpens row says
   pub is : a ≡ record { number = first_number says; sheet = sheet_of entries (first_record says) }
 

@@ -12,7 +12,7 @@ ghost use Rattle.desk.specs.Parts.{FirstAnswered, FirstTaken, answer_number};
 use crate::page;
 use changes;
 use lines;
-use lines::{First, Order};
+use lines::Order;
 use machine;
 use machine::{Line, Program};
 use refusals::Refusal;
@@ -31,10 +31,8 @@ pub fn first_answer(line: &Line) -> Result<Sheet, Refused>
     requires { LineFits line.now }
     ensures { FirstAnswered (row_of line.now) (opening_of result) }
 {
-    let First::Marks(m) = lines::first_of(*line) else {
-        return Err(Refusal::Unreadable(0).into());
-    };
-    Sheet::open(m)
+    let marks = lines::first_of(*line).ok_or(Refusal::Unreadable(0))?;
+    Sheet::open(marks)
 }
 
 // Lays what a call is answered: nothing where it was done.
