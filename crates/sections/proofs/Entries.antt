@@ -8,16 +8,16 @@ use native.Mathlib.Nat.{one-le-pow}
 use native.Mathlib.Numerals.{sub-one}
 use native.Mathlib.Omega.{arith}
 use lib.Dec.{eqb}
-use lib.ListN.{length, drop, set, length-set}
+use lib.ListN.{length, set, length-set}
 use borrow.Author.Tests.{le-leb, lt-leb, lt-ltb, le-ltb, eq-eqb, ne_eqb}
-use Rattle.ground.proofs.Cases.{below_or, same_or, clash}
+use Rattle.ground.proofs.Cases.{below_or, same_or}
 use Rattle.tables.specs.Tables.{entry}
 use Rattle.refusals.specs.declared.Refusal.{Refusal}
 use Rattle.refusals.specs.declared.Refusal.TheVariants.{Unreadable}
-use Rattle.sheet.specs.Limits.{most_marks, most_held}
+use Rattle.sheet.specs.Limits.{most_held}
 use Rattle.sheet.specs.Record.{Record}
 use Rattle.stored.specs.Sections.{Rest, bytes_behind, takes, held_in, added}
-use Rattle.stored.specs.Fields.{Next, due, count, combination, behind, rest_due, entries_due, judge, refused, Run}
+use Rattle.stored.specs.Fields.{Next, due, count, combination, behind, rest_due, entries_due, judge}
 use Rattle.stored.specs.declared.Section.{Section}
 use Rattle.stored.proofs.Sections.{held_more}
 use Rattle.sections.specs.Places.{offset_of, Fits, Faulty}

@@ -1,5 +1,5 @@
 -- A field that comes next in a form: its number, and how the run goes on where it is taken, faulty, or not complete.
-use Rattle.std.proofs.Common.{◌≡◌, ◌∙◌, ℕ, suc, ◌+◌, ◌-◌, ◌*◌, ◌^◌, ◌≤◌, ◌<◌, refl, sym, ap, subst, true, false, List, [], ◌∷◌, length, get_or, take, drop, arith}
+use Rattle.std.proofs.Common.{◌≡◌, ◌∙◌, ℕ, ◌+◌, ◌-◌, ◌*◌, ◌^◌, ◌≤◌, ◌<◌, refl, sym, ap, subst, List, [], ◌∷◌, length, get_or, take, drop, arith}
 use Rattle.std.proofs.lemmas.List.{take_all}
 use native.Mathlib.Nat.{pow-le-pow_right}
 use lib.ListN.{length-drop}
@@ -7,7 +7,7 @@ use Rattle.refusals.specs.declared.Refusal.{Refusal}
 use Rattle.refusals.specs.declared.Refusal.TheVariants.{Unreadable}
 use Rattle.sheet.specs.Limits.{most_marks}
 use Rattle.sheet.specs.Record.{Record}
-use Rattle.stored.specs.Fields.{number_in, Due, width, Next, due, end, wrong, judge, Outcome, good, refused, Run, done, over, early, faulty}
+use Rattle.stored.specs.Fields.{number_in, Due, width, Next, due, end, wrong, judge, good, refused, Run, done, over, early, faulty}
 use Rattle.stored.proofs.Runs.{goes}
 use Rattle.sections.specs.Parts.{Leads, Stops}
 use Rattle.sections.specs.Places.{offset_of, number_at, Fits, Faulty, early as field_early, wrong as field_wrong}

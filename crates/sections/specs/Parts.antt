@@ -1,5 +1,5 @@
 -- What sections that are read tell. f and g are the cursors before them and behind them.
-use Rattle.std.specs.Prelude.{ℕ, ◌^◌, ◌≤◌, ◌<◌, ◌≡◌, true, false, cond, ◌&&◌, List, eqb, ltb, length, Result, MatchResult}
+use Rattle.std.specs.Prelude.{ℕ, ◌^◌, ◌≤◌, ◌<◌, ◌≡◌, false, cond, ◌&&◌, List, eqb, ltb, length, Result, MatchResult}
 use Rattle.boxes.specs.Sums.{only}
 use Rattle.tables.specs.Tables.{entry}
 use Rattle.classes.specs.declared.Standing.TheVariants as standing

@@ -4,7 +4,7 @@ ghost use Rattle.stored.specs.Fields.{number_in};
 
 use refusals::Refusal;
 
-// What is left of a form of so many bytes.
+// What is left of a form of so many bytes. The size is that of all the form: places count from its beginning, which `rest` does not tell.
 #[derive(Clone, Copy)]
 pub struct Form<'a> {
     pub size: usize,

@@ -12,7 +12,7 @@ use refusals::Refusal;
 use sheet::Sheet;
 use stored::Section;
 
-// The least number that may stand behind a combination.
+// The least number that may stand behind a combination. A table would need the case as a number, so it is no plainer.
 fn least(section: Section) -> usize
     ensures { result ≡ least section }
 {
@@ -23,7 +23,7 @@ fn least(section: Section) -> usize
     }
 }
 
-// What a combination has in a section with this number behind it: its seconds, or 1.
+// What a combination has in a section with this number behind it: its seconds, or 1. `least` matches the same cases, and tells another thing.
 fn has_in(section: Section, number: u32) -> u32
     ensures { result ≡ has_in section number }
 {

@@ -1,10 +1,6 @@
-use Rattle.std.proofs.Common.{◌≡◌, ◌+◌, ◌-◌, ◌^◌, ◌≤◌, ◌<◌, ℕ, refl, ap, subst, arith, rules}
+use Rattle.std.proofs.Common.{◌≡◌, ◌+◌, ◌-◌, ℕ, ap, arith}
 use native.Mathlib.Nat.{one-le-pow, sub-zero}
 use Rattle.sheet.proofs.Opening.{combinations_fit, same-entry}
-use Rattle.sheet.specs.Limits.{most_held}
-use Rattle.stored.specs.Sections.{bytes_behind}
-use Rattle.sections.specs.Places.{Fits, Faulty}
-use Rattle.sections.specs.Parts.{least}
 use Rattle.sections.proofs.Refused.{passed_on}
 use Rattle.sections.proofs.Entries.{reached_none, reached_end, entry_missed, entry_barred, number_missed, reached_more}
 use Rattle.sections.proofs.read_entries.Goals as goal

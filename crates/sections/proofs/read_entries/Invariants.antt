@@ -1,5 +1,5 @@
 -- Behind each entry the run has led to the next; a field that is missed stops it at its place, and so does a combination that the section does not take.
-use Rattle.std.proofs.Common.{ℕ, ◌-◌, ◌^◌, ◌≡◌}
+use Rattle.std.proofs.Common.{◌-◌, ◌^◌, ◌≡◌}
 use Rattle.sections.proofs.Entries.{EntriesReached}
 use Rattle.sections.proofs.read_entries.Given as goal
 

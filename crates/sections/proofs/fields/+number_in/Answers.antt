@@ -1,4 +1,4 @@
-use Rattle.std.proofs.Common.{length, ◌^◌, ◌*◌, ◌<◌, ◌≤◌, ap, arith, rules}
+use Rattle.std.proofs.Common.{arith, rules}
 use Rattle.sections.proofs.Offsets.{number_small, number_none, number_more}
 use Rattle.sections.proofs.fields.+number_in.Goals as goal
 
