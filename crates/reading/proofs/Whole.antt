@@ -23,7 +23,7 @@ use Rattle.sheet.specs.declared.Sheet.{Sheet}
 use Rattle.sheet.proofs.Opening.{sheet_same, ones_addable, combinations_fit}
 use Rattle.stored.specs.declared.Layout.{Layout}
 use Rattle.stored.specs.declared.Layout.TheVariants.{First, Today}
-use Rattle.stored.specs.declared.Read.{Read}
+use Rattle.stored.specs.Told.{Read}
 use Rattle.stored.specs.declared.Section.TheVariants.{Class, Either, Held}
 use Rattle.stored.specs.Sections.{Rest, nothing, profile, more, sections}
 use Rattle.stored.specs.Fields.{Bytes, due, marks, count, end, rest_due, judge, good, refused, Run, ReadingBy}
