@@ -77,7 +77,7 @@ pub fn read(bytes: &[u8]) -> Result<Sheet, Refused>
     read_by(bytes, Layout::Today)
 }
 
-// 01's form.
+// 01's form. It stands beside `read`, since docs/CONTRACTS.md promises both.
 pub fn read_first(bytes: &[u8]) -> Result<Sheet, Refused>
     ensures { ReadsBy First most_marks entries bytes.now (read_as result) }
 {
