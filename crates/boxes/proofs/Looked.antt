@@ -8,29 +8,15 @@ use native.Mathlib.Numerals.{add-one}
 use native.Mathlib.Decide.{le_ind}
 use native.Mathlib.Omega.{arith}
 use lib.Arith.{mod-mul}
-use lib.Dec.{eqb, leb, lit<}
+use lib.Dec.{eqb, lit<}
 use lib.ListN.{get_or}
 use lib.Pow.{pow_mono, mod-pow-add}
-use borrow.Author.Tests.{eqb-true, leb-true}
+use borrow.Author.Tests.{eqb-true}
 use Rattle.ground.specs.Every.{every}
 use Rattle.ground.proofs.Every.{every_at}
 use Rattle.boxes.specs.Boxes.{lowest, through, single}
 use Rattle.boxes.proofs.Choices.{free_marks, free_marks_lt, through_wide}
 use Rattle.boxes.proofs.Numbers.{boxes_mono}
-
--- entries that are bytes
-bytes : (n : ℕ) (t : List ℕ) → every n (λ i. leb (get_or t i 0) 255) ≡ true → (i : ℕ) → i < n → get_or t i 0 ≤ 255
-bytes n t e i l = leb-true _ _ (every_at n (λ i. leb (get_or t i 0) 255) i e l)
-
-abbrev pub powers : List ℕ
-powers = 1 ∷ 3 ∷ 9 ∷ 27 ∷ 81 ∷ 243 ∷ 729 ∷ 2187 ∷ 6561 ∷ []
-
-powers_computed : every 9 (λ m. eqb (get_or powers m 0) (3 ^ m)) ≡ true
-unfolding every
-powers_computed = refl
-
-pub power_at : (m : ℕ) → m ≤ 8 → get_or powers m 0 ≡ 3 ^ m
-power_at m h = eqb-true _ _ (every_at 9 (λ m. eqb (get_or powers m 0) (3 ^ m)) m powers_computed (omega arith))
 
 abbrev pub fours : List ℕ
 fours = 0 ∷ 1 ∷ 3 ∷ 4 ∷ 9 ∷ 10 ∷ 12 ∷ 13 ∷ 27 ∷ 28 ∷ 30 ∷ 31 ∷ 36 ∷ 37 ∷ 39 ∷ 40 ∷ []
@@ -38,10 +24,6 @@ fours = 0 ∷ 1 ∷ 3 ∷ 4 ∷ 9 ∷ 10 ∷ 12 ∷ 13 ∷ 27 ∷ 28 ∷ 30 ∷ 
 -- the box of a combination of eight marks, looked up by its low four and its high four
 abbrev pub looked : ℕ → ℕ
 looked c = get_or fours (c % 16) 0 + get_or fours (c / 16) 0 * 81
-
-pub fours_few : (i : ℕ) → i < 16 → get_or fours i 0 ≤ 255
-unfolding every
-fours_few = bytes 16 fours refl
 
 fours_computed : every 256 (λ c. eqb (looked c) (single 8 c)) ≡ true
 unfolding every through
@@ -120,10 +102,6 @@ marks_computed = refl
 
 marks_at : (b : ℕ) → b < 81 → get_or marks b 0 ≡ lowest 4 b * 16 + free_marks 4 b
 marks_at b l = eqb-true _ _ (every_at 81 (λ b. eqb (get_or marks b 0) (lowest 4 b * 16 + free_marks 4 b)) b marks_computed l)
-
-pub marks_few : (b : ℕ) → b < 81 → get_or marks b 0 ≤ 255
-unfolding every
-marks_few = bytes 81 marks refl
 
 -- what g takes from an entry is a mask of four marks, so what it takes from two is one of eight
 both : (f g : ℕ → ℕ) → f 0 ≡ 0 → ((b : ℕ) → b < 81 → g (get_or marks b 0) ≡ by f 4 b) → (m b : ℕ) → m ≤ 8 → b < 3 ^ m

@@ -1,5 +1,5 @@
 -- What the functions on boxes tell each other: a box taken apart, and the boxes through a combination.
-use Rattle.std.specs.Prelude.{ℕ, ◌+◌, ◌*◌, ◌-◌, ◌^◌, ◌<◌, ◌≤◌, ◌≡◌, Bool, List, eqb, length, get_or}
+use Rattle.std.specs.Prelude.{ℕ, ◌+◌, ◌*◌, ◌-◌, ◌^◌, ◌<◌, ◌≤◌, ◌≡◌, Bool, List, eqb, get_or}
 use Rattle.std.specs.Int.Bits.{bit_and}
 use Rattle.boxes.specs.Boxes.{contains, through}
 use Rattle.boxes.specs.declared.Digits.{Digits}
@@ -18,12 +18,10 @@ AllThrough m c xs = (t : ℕ) → t < 2 ^ m → get_or xs t 0 ≡ through m c t
 
 -- of 256 entries the first n have room behind them, and bear so much more
 pub record Doubles (n more : ℕ) (xs : List ℕ) : Type 0 where
-  pub long : length xs ≡ 256
   pub space : n * 2 ≤ 256
   pub bear : (t : ℕ) → t < n → get_or xs t 0 + more < 2 ^ 16
 
 -- they stand behind themselves, each by so much more
 pub record Doubled (n more : ℕ) (xs ys : List ℕ) : Type 0 where
-  pub long : length ys ≡ length xs
   pub first : (t : ℕ) → t < n → get_or ys t 0 ≡ get_or xs t 0
   pub second : (t : ℕ) → t < n → get_or ys (n + t) 0 ≡ get_or xs t 0 + more

@@ -21,7 +21,7 @@ pub fn power3(m: usize) -> usize
     requires { m ≤ 8 }
     ensures { (result ≡ 3 ^ m) × (result ≤ 6561) }
 {
-    POWERS[m] as usize
+    usize::from(POWERS[m])
 }
 
 // A box taken apart, for tests: its free marks, and the marks that it wants on, which are its lowest combination. A number that is no box wants a mark
@@ -56,9 +56,8 @@ pub fn digits_of(m: usize, b: usize) -> Digits
     if power3(m) <= b {
         return Digits { free: 1, on: 1 };
     }
-    let marks = MARKS;
-    let low = marks[b % 81] as usize;
-    let high = marks[b / 81] as usize;
+    let low = usize::from(MARKS[b % 81]);
+    let high = usize::from(MARKS[b / 81]);
     Digits {
         free: high % 16 * 16 + low % 16,
         on: high / 16 * 16 + low / 16,
@@ -89,7 +88,7 @@ pub fn single(m: usize, c: usize) -> usize
     ensures { (result ≡ single m c) × (result < 3 ^ m) }
 {
     let marks = c & (power2(m) - 1);
-    FOURS[marks % 16] as usize + FOURS[marks / 16] as usize * 81
+    usize::from(FOURS[marks % 16]) + usize::from(FOURS[marks / 16]) * 81
 }
 
 // Mark i of the combination c: 1 if it is on.
@@ -100,20 +99,14 @@ fn mark(c: usize, i: usize) -> usize
     (c >> i) & 1
 }
 
-// Room for the boxes through a combination. Made in a function of its own, so that no proof meets its zeros.
-fn room() -> [u16; 256]
-    ensures { 256 ≡ length result }
-{
-    [0u16; 256]
-}
-
 // Behind the first n numbers the same again, each by so much more.
 fn double(xs: &mut [u16; 256], n: usize, more: u16)
     requires { Doubles n more xs.old }
     ensures { Doubled n more xs.old xs.new }
 {
-    for t in 0..n {
-        xs[n + t] = xs[t] + more;
+    let (first, rest) = xs.split_at_mut(n);
+    for (t, x) in first.iter().enumerate() {
+        rest[t] = *x + more;
     }
 }
 
@@ -122,7 +115,7 @@ pub fn all_through(m: usize, c: usize) -> [u16; 256]
     requires { m ≤ 8 }
     ensures { AllThrough m c result }
 {
-    let mut all = room();
+    let mut all = [0u16; 256];
     all[0] = single(m, c) as u16;
     for i in 0..m {
         let more = (2 - mark(c, i)) * power3(i);
@@ -136,5 +129,5 @@ pub fn through(m: usize, c: usize, all: &[u16; 256], t: usize) -> usize
     requires { (m ≤ 8) × AllThrough m c all.now × (t < 2 ^ m) }
     ensures { (result ≡ through m c t) × (result < 3 ^ m) }
 {
-    all[t] as usize
+    usize::from(all[t])
 }

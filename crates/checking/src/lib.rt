@@ -117,8 +117,8 @@ fn judged(m: usize, told: Bits, list: &[u8]) -> Result<(), (Fault, usize)>
         return Err((Fault::NoBox, i));
     }
     let sets = sets::sets();
-    let covered = united(m, &sets, list)?;
-    if let Some(i) = leaving(m, &sets, told.room, list) {
+    let covered = united(m, sets, list)?;
+    if let Some(i) = leaving(m, sets, told.room, list) {
         return Err((Fault::Leaves, i));
     }
     let missed = told.need & !covered;

@@ -22,7 +22,7 @@ use Rattle.lists.proofs.Count.{lines_upto}
 use Rattle.lists.proofs.Fit.{Inside}
 use Rattle.lists.proofs.Pottosin.{fits_independent}
 use Rattle.sets.specs.Sets.{set_marks, has, value_at}
-use Rattle.sets.proofs.Bits.{has-and}
+use Rattle.sets.proofs.Bits.{has-and, has-shr}
 use Rattle.costs.specs.Costs.{weight, whole, Certified}
 
 -- what f gives where p holds
@@ -79,6 +79,9 @@ weight_in c p f e = sum_step c (given p f) ∙ ap (λ (x : Bool). sum c (given p
 
 pub weight_out : (c : ℕ) (p : ℕ → Bool) (f : ℕ → ℕ) → p c ≡ false → sum (c + 1) (given p f) ≡ sum c (given p f)
 weight_out c p f e = sum_step c (given p f) ∙ ap (λ (x : Bool). sum c (given p f) + only x (f c)) e ∙ omega arith
+
+-- a weight, a combination at a time
+pub ruleset weight_steps = (has-shr, weight_none, weight_in, weight_out)
 
 -- ---- the table of costs
 weight-same : (s : ℕ) (p : ℕ → Bool) (f : ℕ → ℕ) → ((c : ℕ) → has s c ≡ p c) → weight (has s) f ≡ weight p f

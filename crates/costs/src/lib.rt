@@ -1,9 +1,11 @@
 // What boxes cost by weights: a certificate of how few boxes a fitting list cannot have.
 #![tactic(auto)]
 
-ghost use Rattle.std.specs.Prelude.{◌≡◌, ◌^◌, ◌≤◌, ◌<◌};
+ghost use Rattle.std.specs.Prelude.{◌≡◌, ℕ, Bool, ◌^◌, ◌≤◌, ◌<◌};
 ghost use Rattle.sets.specs.Sets.{set_marks, has, value_at, Sets};
 ghost use Rattle.costs.specs.Costs.{Certified, weight};
+
+use weights::Weights;
 
 // The parts of a box that weights are told in.
 pub const WHOLE: u64 = 65536;
@@ -17,24 +19,23 @@ pub struct Certificate {
 }
 
 // The weight of a set of combinations.
-fn weight_of(s: u32, w: &[u32; 32]) -> u64
-    ensures { (result ≡ weight (has s) (value_at w.now)) × (result < 2 ^ 37) }
+#[tactic(auto, using(crate::proofs::Cost::weight_steps))]
+fn weight_of(set: u32, weights: &[u32; 32]) -> u64
+    ensures all { result ≡ weight (has set) (value_at weights.now) }
+    ensures small { result < 2 ^ 37 }
 {
     let mut total: u64 = 0;
-    let mut c: usize = 0;
-    while c < 32 {
-        if (s >> c) % 2 == 1 {
-            total = total + ground::wide(w[c]);
+    for (c, part) in weights.iter().enumerate() {
+        if (set >> c) % 2 == 1 {
+            total += u64::from(*part);
         }
-        c += 1;
     }
     total
 }
 
-// Weights of 0: each box costs the same.
-fn plain(m: usize, need: u32, room: u32) -> Certificate
-    requires { m ≤ set_marks }
-    ensures { Certified m result.costs (has need) (has room) result.plus result.minus }
+// Weights of 0: each box costs the same, whatever is to be covered.
+fn plain() -> Certificate
+    ensures { (m : ℕ) (need room : ℕ → Bool) → m ≤ set_marks → Certified m result.costs need room result.plus result.minus }
 {
     Certificate {
         costs: [WHOLE; 243],
@@ -44,39 +45,29 @@ fn plain(m: usize, need: u32, room: u32) -> Certificate
 }
 
 // What each box of the room costs by the weights, where none costs less than nothing; otherwise by weights of 0.
-fn certify(
-    m: usize,
-    sets: &[u32; 243],
-    need: u32,
-    room: u32,
-    plus: &[u32; 32],
-    minus: &[u32; 32],
-) -> Certificate
+fn certify(m: usize, sets: &[u32; 243], need: u32, room: u32, weights: &Weights) -> Certificate
     requires { (m ≤ set_marks) × Sets m sets.now }
     ensures { Certified m result.costs (has need) (has room) result.plus result.minus }
 {
-    let n = boxes::power3(m);
-    let mut costs = [0u64; 243];
-    let mut b: usize = 0;
-    while b < n {
-        let s = sets[b];
-        if s & room == s {
-            let p = weight_of(s & need, plus);
-            let q = weight_of(s, minus);
-            if WHOLE + q < p {
-                return plain(m, need, room);
+    let mut known = Certificate {
+        costs: [0; 243],
+        plus: 0,
+        minus: 0,
+    };
+    for b in 0..boxes::power3(m) {
+        let set = sets[b];
+        if set & room == set {
+            let plus = weight_of(set & need, &weights.plus);
+            let minus = weight_of(set, &weights.minus);
+            if WHOLE + minus < plus {
+                return plain();
             }
-            costs[b] = WHOLE + q - p;
+            known.costs[b] = WHOLE + minus - plus;
         }
-        b += 1;
     }
-    let all_plus = weight_of(room & need, plus);
-    let all_minus = weight_of(room, minus);
-    Certificate {
-        costs,
-        plus: all_plus,
-        minus: all_minus,
-    }
+    known.plus = weight_of(room & need, &weights.plus);
+    known.minus = weight_of(room, &weights.minus);
+    known
 }
 
 // By weights that are proposed, and checked here.
@@ -90,8 +81,6 @@ pub fn weighed(
     requires { (m ≤ set_marks) × Sets m sets.now }
     ensures { Certified m result.costs (has need) (has room) result.plus result.minus }
 {
-    let w = weights::propose(sets, singles, need, room);
-    let plus = w.plus;
-    let minus = w.minus;
-    certify(m, sets, need, room, &plus, &minus)
+    let proposed = weights::propose(sets, singles, need, room);
+    certify(m, sets, need, room, &proposed)
 }

@@ -1,58 +1,13 @@
--- The Gregorian rule case by case, and days against the last day of a month: what is earlier is told by the first of year, month and day that differs.
-use Prim.Native.Nat.{ℕ, ◌%◌, ◌≤◌, ◌<◌}
+-- Days against the last day of a month: what is earlier is told by the first of year, month and day that differs.
+use Prim.Native.Nat.{ℕ, ◌≤◌, ◌<◌}
 use mathlib.Core.Path.{◌≡◌, refl, sym, ◌∙◌}
-use mathlib.Core.Bool.{Bool, true, false, cond, ◌&&◌, ◌||◌}
+use mathlib.Core.Bool.{Bool, true, false, ◌&&◌, ◌||◌}
 use native.Mathlib.Omega.{arith}
-use lib.Dec.{eqb, leb, ltb}
-use borrow.Author.Tests.{leb-true, lt-ltb, le-ltb, le-leb, lt-leb, eq-eqb, ne_eqb}
-use Rattle.ground.proofs.Cases.{if, clash, below_or, same_or, and_left, and_right}
+use lib.Dec.{leb, ltb}
+use borrow.Author.Tests.{leb-true, lt-ltb, le-ltb, eq-eqb, ne_eqb}
+use Rattle.ground.proofs.Cases.{clash, below_or, same_or, and_left, and_right}
 use Rattle.dates.specs.declared.date.Date.{Date}
-use Rattle.dates.specs.Gregorian.{leap, days_in, is_day, earlier, last_day}
-
--- leap years
-
-module _ (y : ℕ) where
-  pub leap_by_400 : y % 400 ≡ 0 → leap y ≡ true
-  unfolding leap
-  leap_by_400 h = rw (eq-eqb (y % 4) 0 (omega arith), eq-eqb (y % 100) 0 (omega arith), eq-eqb (y % 400) 0 h)
-
-  pub leap_by_100 : (y % 400 ≡ 0 → ⊥) → y % 100 ≡ 0 → leap y ≡ false
-  unfolding leap
-  leap_by_100 n h = rw (eq-eqb (y % 4) 0 (omega arith), eq-eqb (y % 100) 0 h, ne_eqb (y % 400) 0 n)
-
-  pub leap_by_4 : (y % 400 ≡ 0 → ⊥) → (y % 100 ≡ 0 → ⊥) → leap y ≡ eqb (y % 4) 0
-  unfolding leap
-  leap_by_4 n k = rw (ne_eqb (y % 100) 0 k, ne_eqb (y % 400) 0 n) (if (eqb (y % 4) 0) (λ e. rw e) (λ e. rw e))
-
--- the days of a month
-
-module _ (y m : ℕ) where
-  pub days_february : {t : Bool} → m ≡ 2 → leap y ≡ t → days_in y m ≡ cond t 29 28
-  unfolding days_in
-  days_february h l = rw (eq-eqb m 2 h, l)
-
-  pub days_others : (m ≡ 2 → ⊥) → (m ≡ 4 → ⊥) → (m ≡ 6 → ⊥) → (m ≡ 9 → ⊥) → (m ≡ 11 → ⊥) → days_in y m ≡ 31
-  unfolding days_in
-  days_others a b c d e = rw (ne_eqb m 2 a, ne_eqb m 4 b, ne_eqb m 6 c, ne_eqb m 9 d, ne_eqb m 11 e)
-
--- which days there are
-
-module _ (d : Date) where
-  pub month_low : d.month < 1 → is_day d ≡ false
-  unfolding is_day
-  month_low h = rw (lt-leb 1 d.month h)
-
-  pub month_high : 12 < d.month → is_day d ≡ false
-  unfolding is_day
-  month_high h = rw (le-leb 1 d.month (omega arith), lt-leb d.month 12 h)
-
-  pub day_low : 1 ≤ d.month → d.month ≤ 12 → d.day < 1 → is_day d ≡ false
-  unfolding is_day
-  day_low h k l = rw (le-leb 1 d.month h, le-leb d.month 12 k, lt-leb 1 d.day l)
-
-  pub day_high : 1 ≤ d.month → d.month ≤ 12 → 1 ≤ d.day → is_day d ≡ leb d.day (days_in d.year d.month)
-  unfolding is_day
-  day_high h k l = rw (le-leb 1 d.month h, le-leb d.month 12 k, le-leb 1 d.day l)
+use Rattle.dates.specs.Gregorian.{days_in, is_day, earlier, last_day}
 
 -- which of two days is earlier
 

@@ -6,9 +6,8 @@ use native.Mathlib.Omega.{arith}
 use lib.ListN.{length, get_or, take, drop, length-drop, take-append-drop}
 use lib.Seq.{take-suc, take-add, length-take-le}
 use Rattle.ground.specs.Figures.{figures}
+use Rattle.std.specs.Prelude.{Some, None}
 use Rattle.dates.specs.declared.date.Date.{Date}
-use Rattle.dates.specs.declared.digits.Number.TheVariants.{Digits, NoDigits}
-use Rattle.dates.specs.declared.reading.Dating.TheVariants.{On, NoDate}
 use Rattle.dates.specs.Texts.{Numbered, date_text, DatedBy, DatingOf}
 use Rattle.dates.proofs.Numbers.{writes_same, number_long}
 
@@ -17,7 +16,7 @@ module _ {line : List ℕ} {d : Date} {rest : List ℕ} (w : DatedBy line d rest
   unfolding figures date_text
   dated_long = rw w.text (omega arith)
 
-  dated_year : Numbered (take 4 line) (Digits d.year)
+  dated_year : Numbered (take 4 line) (Some d.year)
   unfolding figures date_text
   dated_year = rw w.text (record { small = w.year; text = refl })
 
@@ -25,7 +24,7 @@ module _ {line : List ℕ} {d : Date} {rest : List ℕ} (w : DatedBy line d rest
   unfolding figures date_text
   dated_dash = rw w.text
 
-  dated_month : Numbered (take 2 (drop 5 line)) (Digits d.month)
+  dated_month : Numbered (take 2 (drop 5 line)) (Some d.month)
   unfolding figures date_text
   dated_month = rw w.text (record { small = w.month; text = refl })
 
@@ -33,7 +32,7 @@ module _ {line : List ℕ} {d : Date} {rest : List ℕ} (w : DatedBy line d rest
   unfolding figures date_text
   dated_dash_2 = rw w.text
 
-  dated_day : Numbered (take 2 (drop 8 line)) (Digits d.day)
+  dated_day : Numbered (take 2 (drop 8 line)) (Some d.day)
   unfolding figures date_text
   dated_day = rw w.text (record { small = w.day; text = refl })
 
@@ -62,31 +61,31 @@ dated_one {line} {d} {e} p q = (
 -- a line that is not so
 
 module _ (line : List ℕ) where
-  pub dating_short : length line < 11 → DatingOf line NoDate
+  pub dating_short : length line < 11 → DatingOf line None
   dating_short h = λ d rest w. omega (arith, dated_long w)
 
-  pub dating_dash : (get_or line 4 0 ≡ 45 → ⊥) → DatingOf line NoDate
+  pub dating_dash : (get_or line 4 0 ≡ 45 → ⊥) → DatingOf line None
   dating_dash n = λ d rest w. n (dated_dash w)
 
-  pub dating_dash_2 : (get_or line 7 0 ≡ 45 → ⊥) → DatingOf line NoDate
+  pub dating_dash_2 : (get_or line 7 0 ≡ 45 → ⊥) → DatingOf line None
   dating_dash_2 n = λ d rest w. n (dated_dash_2 w)
 
-  pub dating_space : (get_or line 10 0 ≡ 32 → ⊥) → DatingOf line NoDate
+  pub dating_space : (get_or line 10 0 ≡ 32 → ⊥) → DatingOf line None
   dating_space n = λ d rest w. n (dated_space w)
 
-  pub dating_year : Numbered (take 4 line) NoDigits → DatingOf line NoDate
+  pub dating_year : Numbered (take 4 line) None → DatingOf line None
   dating_year n = λ d rest w. n d.year (dated_year w)
 
-  pub dating_month : Numbered (take 2 (drop 5 line)) NoDigits → DatingOf line NoDate
+  pub dating_month : Numbered (take 2 (drop 5 line)) None → DatingOf line None
   dating_month n = λ d rest w. n d.month (dated_month w)
 
-  pub dating_day : Numbered (take 2 (drop 8 line)) NoDigits → DatingOf line NoDate
+  pub dating_day : Numbered (take 2 (drop 8 line)) None → DatingOf line None
   dating_day n = λ d rest w. n d.day (dated_day w)
 
   -- and one that is
   pub dating_on : (d : Date) → 11 ≤ length line → get_or line 4 0 ≡ 45 → get_or line 7 0 ≡ 45 → get_or line 10 0 ≡ 32
-      → Numbered (take 4 line) (Digits d.year) → Numbered (take 2 (drop 5 line)) (Digits d.month) → Numbered (take 2 (drop 8 line)) (Digits d.day)
-      → DatingOf line (On d)
+      → Numbered (take 4 line) (Some d.year) → Numbered (take 2 (drop 5 line)) (Some d.month) → Numbered (take 2 (drop 8 line)) (Some d.day)
+      → DatingOf line (Some d)
   unfolding date_text
   dating_on d h p q r y m k =
       let a = number_long (length-take-le 4 line (omega arith)) y in

@@ -9,7 +9,7 @@ use lib.ListN.{length, get_or, take}
 use lib.Seq.{take_all, take-suc}
 use Rattle.ground.specs.Figures.{figures}
 use Rattle.ground.proofs.Figures.{figures_byte, figures_same}
-use Rattle.dates.specs.declared.digits.Number.TheVariants.{Digits, NoDigits}
+use Rattle.std.specs.Prelude.{Some, None}
 use Rattle.dates.specs.Texts.{digits, Writes, Numbered}
 
 pub writes_same : {k : ℕ} {part : List ℕ} {a b : ℕ} → Writes k part a → Writes k part b → a ≡ b
@@ -43,12 +43,12 @@ writes_more part i n d w h k e =
     })
 
 module _ (part : List ℕ) where
-  pub number_read : (i n : ℕ) → length part ≤ i → i ≤ length part → Writes i (take i part) n → Numbered part (Digits n)
+  pub number_read : (i n : ℕ) → length part ≤ i → i ≤ length part → Writes i (take i part) n → Numbered part (Some n)
   number_read i n h k w =
       let e : i ≡ length part = omega arith in
       record { small = subst (λ (j : ℕ). n < 10 ^ j) e w.small; text = sym (take_all i part h) ∙ w.text ∙ ap (λ (j : ℕ). digits j n) e }
 
-  pub number_other : (i : ℕ) → i < length part → ((48 ≤ get_or part i 0) × (get_or part i 0 ≤ 57) → ⊥) → Numbered part NoDigits
+  pub number_other : (i : ℕ) → i < length part → ((48 ≤ get_or part i 0) × (get_or part i 0 ≤ 57) → ⊥) → Numbered part None
   number_other i h q =
       λ n w.
       let e : get_or part i 0 ≡ get_or (digits (length part) n) i 0 = ap (λ (t : List ℕ). get_or t i 0) w.text in
@@ -56,5 +56,5 @@ module _ (part : List ℕ) where
       q (omega arith, omega arith)
 
 -- a part of k bytes
-pub number_long : {k n : ℕ} {part : List ℕ} → length part ≡ k → Numbered part (Digits n) → Writes k part n
+pub number_long : {k n : ℕ} {part : List ℕ} → length part ≡ k → Numbered part (Some n) → Writes k part n
 number_long {k} {n} {part} e w = subst (λ (j : ℕ). Writes j part n) e w

@@ -1,12 +1,8 @@
 -- How a date is written: YYYY-MM-DD, each part with all its digits. A text is a list of bytes; 48 is `0`.
-use Rattle.std.specs.Prelude.{ℕ, ◌^◌, ◌<◌, ◌≡◌, List, ◌++◌, length}
+use Rattle.std.specs.Prelude.{ℕ, ◌^◌, ◌<◌, ◌≡◌, List, ◌++◌, length, Option, Some, None}
 use Rattle.ground.specs.Texts.{ascii}
 use Rattle.ground.specs.Figures.{figures}
 use Rattle.dates.specs.declared.date.Date.{Date}
-use Rattle.dates.specs.declared.digits.Number.{Number}
-use Rattle.dates.specs.declared.digits.Number.TheVariants.{Digits, NoDigits}
-use Rattle.dates.specs.declared.reading.Dating.{Dating}
-use Rattle.dates.specs.declared.reading.Dating.TheVariants.{On, NoDate}
 
 -- the last k digits of a number, with zeros in front where it has fewer
 abbrev pub digits : ℕ → ℕ → List ℕ
@@ -29,10 +25,10 @@ pub record DatedBy (line : List ℕ) (d : Date) (rest : List ℕ) : Type 0 where
 
 -- what the functions of the reader tell
 
-abbrev pub Numbered : List ℕ → Number → Type 0
-Numbered part (Digits n) = Writes (length part) part n
-Numbered part NoDigits = (n : ℕ) → Writes (length part) part n → ⊥
+abbrev pub Numbered : List ℕ → Option ℕ → Type 0
+Numbered part (Some n) = Writes (length part) part n
+Numbered part None = (n : ℕ) → Writes (length part) part n → ⊥
 
-abbrev pub DatingOf : List ℕ → Dating → Type 0
-DatingOf line (On d) = (rest : List ℕ) × DatedBy line d rest
-DatingOf line NoDate = (d : Date) (rest : List ℕ) → DatedBy line d rest → ⊥
+abbrev pub DatingOf : List ℕ → Option Date → Type 0
+DatingOf line (Some d) = (rest : List ℕ) × DatedBy line d rest
+DatingOf line None = (d : Date) (rest : List ℕ) → DatedBy line d rest → ⊥

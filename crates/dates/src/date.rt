@@ -2,7 +2,8 @@
 ghost use Rattle.std.specs.Prelude.{◌≡◌};
 ghost use Rattle.dates.specs.Gregorian.{leap, days_in, is_day, earlier};
 
-#[derive(Clone, Copy)]
+// Dates are ordered by the year; in a year by the month; in a month by the day.
+#[derive(Clone, Copy, Debug, PartialEq, Eq, PartialOrd, Ord)]
 pub struct Date {
     pub year: usize,
     pub month: usize,
@@ -10,58 +11,43 @@ pub struct Date {
 }
 
 // Whether the year has a 29th of February.
+#[tactic(auto, unfolding(crate::specs::Gregorian::leap))]
 pub fn is_leap(year: usize) -> bool
     ensures { result ≡ leap year }
 {
-    if year % 400 == 0 {
-        return true;
-    }
     if year % 100 == 0 {
-        return false;
+        return year % 400 == 0;
     }
     year % 4 == 0
 }
 
 // How many days a month of the year has.
+#[tactic(auto, unfolding(crate::specs::Gregorian::days_in))]
 pub fn days_in(year: usize, month: usize) -> usize
     ensures { result ≡ days_in year month }
 {
-    if month == 2 {
-        if is_leap(year) {
-            return 29;
-        }
-        return 28;
+    match month {
+        2 if is_leap(year) => 29,
+        2 => 28,
+        4 | 6 | 9 | 11 => 30,
+        _ => 31,
     }
-    if month == 4 || month == 6 || month == 9 || month == 11 {
-        return 30;
-    }
-    31
 }
 
 impl Date {
     // Whether there is such a day.
+    #[tactic(auto, unfolding(crate::specs::Gregorian::is_day))]
     pub fn is_day(self) -> bool
         ensures { result ≡ is_day self }
     {
-        if self.month < 1 || 12 < self.month {
-            return false;
-        }
-        if self.day < 1 {
-            return false;
-        }
-        self.day <= days_in(self.year, self.month)
+        (1..=12).contains(&self.month) && (1..=days_in(self.year, self.month)).contains(&self.day)
     }
 
     // Whether this date is earlier than the other.
+    #[tactic(auto, unfolding(crate::specs::Gregorian::earlier))]
     pub fn is_earlier(self, other: Date) -> bool
         ensures { result ≡ earlier self other }
     {
-        if self.year != other.year {
-            return self.year < other.year;
-        }
-        if self.month != other.month {
-            return self.month < other.month;
-        }
-        self.day < other.day
+        self < other
     }
 }

@@ -3,32 +3,20 @@ ghost use Rattle.std.specs.Prelude.{◌+◌, ◌≤◌, ◌<◌, length};
 ghost use Rattle.ground.specs.Areas.{Wrote};
 ghost use Rattle.dates.specs.Texts.{digits, Numbered};
 
-// What a part reads as that is to be digits.
-#[derive(Clone, Copy)]
-pub enum Number {
-    Digits(usize),
-    NoDigits,
-}
-
-// The number that a part writes, all of it digits.
-pub fn read_number(part: &[u8]) -> Number
+// The number that a part writes, if all of it is digits.
+pub fn read_number(part: &[u8]) -> Option<usize>
     requires { length part.now ≤ 4 }
     ensures { Numbered part.now result }
 {
     let mut n: usize = 0;
-    let mut i: usize = 0;
-    while i < part.len() {
-        let c = part[i];
-        if c < 48 {
-            return Number::NoDigits;
+    for c in part {
+        let d = c.checked_sub(b'0')?;
+        if 9 < d {
+            return None;
         }
-        if 57 < c {
-            return Number::NoDigits;
-        }
-        n = n * 10 + (ground::byte(c) - 48);
-        i += 1;
+        n = n * 10 + usize::from(d);
     }
-    Number::Digits(n)
+    Some(n)
 }
 
 // A number below 100 in two digits.

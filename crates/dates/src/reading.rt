@@ -2,36 +2,17 @@
 ghost use Rattle.dates.specs.Texts.{DatingOf};
 
 use crate::date::Date;
-use crate::digits::{Number, read_number};
-
-// What the front of a text reads as that is to be a date and one space.
-#[derive(Clone, Copy)]
-pub enum Dating {
-    On(Date),
-    NoDate,
-}
+use crate::digits::read_number;
 
 // The date in front of a text, whether there is such a day or not. What is behind it begins at byte 11.
-pub fn read_date(text: &[u8]) -> Dating
+pub fn read_date(text: &[u8]) -> Option<Date>
     ensures { DatingOf text.now result }
 {
-    if text.len() < 11 {
-        return Dating::NoDate;
-    }
-    if text[4] != b'-' || text[7] != b'-' || text[10] != b' ' {
-        return Dating::NoDate;
-    }
-    let y = read_number(&text[..4]);
-    let Number::Digits(year) = y else {
-        return Dating::NoDate;
+    let [_, _, _, _, b'-', _, _, b'-', _, _, b' ', ..] = text else {
+        return None;
     };
-    let m = read_number(&text[5..7]);
-    let Number::Digits(month) = m else {
-        return Dating::NoDate;
-    };
-    let d = read_number(&text[8..10]);
-    let Number::Digits(day) = d else {
-        return Dating::NoDate;
-    };
-    Dating::On(Date { year, month, day })
+    let year = read_number(&text[..4])?;
+    let month = read_number(&text[5..7])?;
+    let day = read_number(&text[8..10])?;
+    Some(Date { year, month, day })
 }

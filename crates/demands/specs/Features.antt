@@ -1,5 +1,6 @@
 -- FEATURES HAVE HOURS (02, Q-3). Which texts are running times, and in which form, is defined in times/specs; here stands what was asked of the reading and
 -- of those who call it, a field for each sentence.
+use Rattle.std.specs.Prelude.{Option, Some}
 use Rattle.std.specs.Prelude.{ℕ, ◌≡◌, List}
 use Rattle.ground.specs.Texts.{ascii}
 use Rattle.times.specs.declared.Form.{Form}
@@ -37,9 +38,9 @@ pub record Features : Type 0 where
   pub told_minutes : {t : List ℕ} {v : ℕ} {r : Reading} → InMinutes t v → Answered t r → r ≡ record { answer = 0; place = 0; value = v; form = 1 }
   pub told_none : {t : List ℕ} {r : Reading} → Answered t r → (r.answer ≡ 0 → ⊥) → r.form ≡ 0
   -- and what a line of the desk, or of a year, asks for
-  pub receives : {m c d : ℕ} {f : Form} {line : List ℕ} {o : Order} → NamesAmount m (ascii "recv ") line c d f → Asked m line o → o ≡ Make (Receive c d) f
-  pub withdraws : {m c d : ℕ} {f : Form} {line : List ℕ} {o : Order} → NamesAmount m (ascii "gone ") line c d f → Asked m line o → o ≡ Make (Withdraw c d) f
-  pub on_day : {m : ℕ} {day : Date} {c : Call} {f : Form} {line : List ℕ} {s : Slip} → SaysOn m line day c f → AskedInYear m line s → s ≡ Dated day c f
+  pub receives : {m c d : ℕ} {f : Form} {line : List ℕ} {o : Order} → NamesAmount m (ascii "recv ") line c d f → Asked m line o → o ≡ Make (Receive c d) (Some f)
+  pub withdraws : {m c d : ℕ} {f : Form} {line : List ℕ} {o : Order} → NamesAmount m (ascii "gone ") line c d f → Asked m line o → o ≡ Make (Withdraw c d) (Some f)
+  pub on_day : {m : ℕ} {day : Date} {c : Call} {f : Option Form} {line : List ℕ} {s : Slip} → SaysOn m line day c f → AskedInYear m line s → s ≡ Dated day c f
   -- the desk prints as today: lines, within their 40 bytes, whose running times are written in the other form print the same
   pub holdings : (input other : List ℕ) {output : List ℕ} → SameBut OtherForm (rows input) (rows other) → Prints input output → Prints other output
   pub months : (input other : List ℕ) {output : List ℕ} → SameBut OtherForm (rows input) (rows other) → PrintsYear input output → PrintsYear other output

@@ -6,6 +6,7 @@ use mathlib.Core.Bool.{true, false, ◌||◌}
 use mathlib.Core.List.{List}
 use lib.Dec.{eqb, leb}
 use borrow.Author.Tests.{lt-leb}
+use Rattle.std.specs.Prelude.{Option, Some, None as Unread}
 use Rattle.boxes.specs.Sums.{sum}
 use Rattle.ground.proofs.Cases.{if}
 use Rattle.profiles.specs.Profiles.{settles}
@@ -21,8 +22,6 @@ use Rattle.machine.specs.Heard.{Hears, nothing, page, refused}
 use Rattle.machine.proofs.Heard.{spoken_heard}
 use Rattle.times.specs.declared.Form.{Form}
 use Rattle.lines.specs.declared.Order.TheVariants.{Make}
-use Rattle.lines.specs.declared.First.{First}
-use Rattle.lines.specs.declared.First.TheVariants.{Marks, NotMarks}
 use Rattle.lines.specs.Words.{Says, enters, leaves, receives, withdraws, said, RowAsks}
 use Rattle.desk.specs.Heard.{IsResult, in_line1, in_later_line}
 use Rattle.desk.specs.Prints.{first_number, first_record, State, first, going, Step, opens, shut, made, unread, ended}
@@ -34,19 +33,19 @@ pub record Plain (r : Record) : Type 0 where
   pub none : NoneEither r
   pub profile : r.profile ≡ None
 
-says_plain : (r : Record) {line : List ℕ} {c : Call} {f : Form} → Plain r → Says r.marks line (Make c f) → Plain (accepted r c)
+says_plain : (r : Record) {line : List ℕ} {c : Call} {f : Option Form} → Plain r → Says r.marks line (Make c f) → Plain (accepted r c)
 says_plain r plain (enters {c} n) = record { none = λ x. if (eqb x c) (λ e. rw e) (λ e. rw e (plain.none x)); profile = plain.profile }
 says_plain r plain (leaves {c} n) = record { none = λ x. if (eqb x c) (λ e. rw e) (λ e. rw e (plain.none x)); profile = plain.profile }
 says_plain r plain (receives n) = record { none = plain.none; profile = plain.profile }
 says_plain r plain (withdraws n) = record { none = plain.none; profile = plain.profile }
 
-pub after_plain : (r : Record) {line : List ℕ} {c : Call} {f : Form} → Plain r → Says r.marks line (Make c f) → Plain (after r c)
+pub after_plain : (r : Record) {line : List ℕ} {c : Call} {f : Option Form} → Plain r → Says r.marks line (Make c f) → Plain (after r c)
 after_plain r {c = c} plain s = if (eqb (number_of r c) 0) (λ e. rw e (says_plain r plain s)) (λ e. rw e plain)
 
 pub opened_plain : (m : ℕ) → Plain (opened m)
 opened_plain m = record { none = λ c. refl; profile = refl }
 
-first_plain : (f : First) → Plain (first_record f)
+first_plain : (f : Option ℕ) → Plain (first_record f)
 first_plain f = subst Plain (sym (first_record_opened f)) (opened_plain _)
 
 pub plain_step : {k : ℕ} {s t : State} {row : Row} {now : List ℕ} → Step k s row t now → Plain (record_in s) → Plain (record_in t)
@@ -62,7 +61,7 @@ plain_step Step.silent plain = plain
 unsettled : (r : Record) → Plain r → (c : ℕ) → settles r.marks r.profile c ≡ false
 unsettled r plain c = ap (λ (p : Profile). settles r.marks p c) plain.profile
 
-pub call_seen : (r : Record) {line : List ℕ} {c : Call} {f : Form} → Plain r → Says r.marks line (Make c f)
+pub call_seen : (r : Record) {line : List ℕ} {c : Call} {f : Option Form} → Plain r → Says r.marks line (Make c f)
     → (eqb (number_of r c) 0 || in_later_line (number_of r c)) ≡ true
 call_seen r plain (enters {c} n) = rw (lt-leb (2 ^ r.marks) c n.small, unsettled r plain c) (if (is_in (r.standing c)) (λ e. rw e) (λ e. rw e))
 call_seen r plain (leaves {c} n) = rw (lt-leb (2 ^ r.marks) c n.small, unsettled r plain c) (if (is_out (r.standing c)) (λ e. rw e) (λ e. rw e))
@@ -81,9 +80,9 @@ line_seen plain (unread w) = refused 10 refl
 line_seen plain (ended {r = r} w t) = page (r, t)
 
 -- the number of a refused `marks`
-pub shut_seen : (f : First) → (first_number f ≡ 0 → ⊥) → in_line1 (first_number f) ≡ true
-shut_seen (Marks m) n = if (marks_ok most_marks m) (λ e. absurd (n (rw e))) (λ e. rw e)
-shut_seen NotMarks n = refl
+pub shut_seen : (f : Option ℕ) → (first_number f ≡ 0 → ⊥) → in_line1 (first_number f) ≡ true
+shut_seen (Some m) n = if (marks_ok most_marks m) (λ e. absurd (n (rw e))) (λ e. rw e)
+shut_seen Unread n = refl
 
 pub first_seen : {k : ℕ} {row : Row} {t : State} {text : List ℕ} → Step k first row t text → Hears IsResult k in_line1 text
 first_seen (opens w e) = nothing

@@ -1,6 +1,7 @@
 -- Line by line, a session whose running times are written in another form prints the same.
 use Prim.Native.Nat.{ℕ}
 use mathlib.Core.List.{List}
+use Rattle.std.specs.Prelude.{Option}
 use Rattle.times.specs.declared.Form.{Form}
 use Rattle.sheet.specs.Record.{Record}
 use Rattle.changes.specs.declared.Call.{Call}
@@ -15,7 +16,7 @@ use Rattle.lines.specs.Forms.{OtherForm}
 use Rattle.lines.proofs.Forms.{SameCall, other_asked, other_opens}
 use Rattle.desk.specs.Prints.{State, going, Step, opens, shut, made, unread, ended, holdings, Prints}
 
-made_again : {k : ℕ} {r : Record} {row : Row} {c : Call} {f : Form} {q : Order} → SameCall (Make c f) q → RowAsks r.marks row q
+made_again : {k : ℕ} {r : Record} {row : Row} {c : Call} {f : Option Form} {q : Order} → SameCall (Make c f) q → RowAsks r.marks row q
     → Step k (going r) row (going (after r c)) (spoken k (number_of r c))
 made_again SameCall.made w = made w
 

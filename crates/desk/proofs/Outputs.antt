@@ -3,6 +3,7 @@ use Prim.Native.Nat.{ℕ}
 use mathlib.Core.Path.{◌≡◌, refl, sym, ap, ◌∙◌}
 use mathlib.Core.List.{List, []}
 use native.Mathlib.Omega.{arith}
+use Rattle.std.specs.Prelude.{Option, Some, None}
 use Rattle.ground.proofs.Cases.{if, same_or}
 use Rattle.lists.proofs.First.{unique}
 use Rattle.lists.proofs.Model.{found}
@@ -19,8 +20,6 @@ use Rattle.machine.proofs.Outputs.{can_step, one_output}
 use Rattle.lines.specs.declared.Order.{Order}
 use Rattle.times.specs.declared.Form.{Form}
 use Rattle.lines.specs.declared.Order.TheVariants.{Make, End, Unreadable}
-use Rattle.lines.specs.declared.First.{First}
-use Rattle.lines.specs.declared.First.TheVariants.{Marks, NotMarks}
 use Rattle.lines.specs.Words.{RowAsks}
 use Rattle.lines.proofs.Settled.{row_asks_settled, row_opens_settled}
 use Rattle.lines.proofs.Decided.{row_asks_decided, row_opens_decided}
@@ -46,17 +45,17 @@ called (Make c f) k = c
 called Unreadable k = k
 called End k = k
 
-same_call : {m : ℕ} {row : Row} {c k : Call} {f g : Form} → RowAsks m row (Make c f) → RowAsks m row (Make k g) → c ≡ k
+same_call : {m : ℕ} {row : Row} {c k : Call} {f g : Option Form} → RowAsks m row (Make c f) → RowAsks m row (Make k g) → c ≡ k
 unfolding called
 same_call {c = c} w v = ap (λ (o : Order). called o c) (row_asks_settled w v)
 
 step_one : {k : ℕ} {s t u : State} {row : Row} {a b : List ℕ} → Step k s row t a → Step k s row u b → (t ≡ u) × (a ≡ b)
 unfolding kind
-step_one (opens w z) (opens v q) = (ap (λ (f : First). going (first_record f)) (row_opens_settled w v), refl)
+step_one (opens w z) (opens v q) = (ap (λ (f : Option ℕ). going (first_record f)) (row_opens_settled w v), refl)
 step_one (opens w z) (shut v n) = absurd (n (ap first_number (sym (row_opens_settled w v)) ∙ z))
 step_one (shut v n) (opens w z) = absurd (n (ap first_number (row_opens_settled v w) ∙ z))
 step_one {k} (shut w n) (shut v q) =
-    (ap (λ (f : First). over (first_record f)) (row_opens_settled w v), ap (λ (f : First). refusal k (first_number f)) (row_opens_settled w v))
+    (ap (λ (f : Option ℕ). over (first_record f)) (row_opens_settled w v), ap (λ (f : Option ℕ). refusal k (first_number f)) (row_opens_settled w v))
 step_one {k} (made {r} w) (made v) = (ap (λ (c : Call). going (after r c)) (same_call w v), ap (λ (c : Call). spoken k (number_of r c)) (same_call w v))
 step_one (made w) (unread v) = unlike w v (λ z. omega arith)
 step_one (made w) (ended v t) = unlike w v (λ z. omega arith)
@@ -88,13 +87,13 @@ unfolding marks_ok
 good_one = good_opened 1 refl
 
 -- the sheet that line 1 opens is an opened one
-pub first_record_opened : (f : First) → first_record f ≡ opened (first_record f).marks
-first_record_opened (Marks n) = if (marks_ok most_marks n) (λ e. rw e) (λ e. rw e)
-first_record_opened NotMarks = refl
+pub first_record_opened : (f : Option ℕ) → first_record f ≡ opened (first_record f).marks
+first_record_opened (Some n) = if (marks_ok most_marks n) (λ e. rw e) (λ e. rw e)
+first_record_opened None = refl
 
-pub good_first : (f : First) → Good (first_record f)
-good_first (Marks n) = if (marks_ok most_marks n) (λ e. rw e (good_opened n e)) (λ e. rw e good_one)
-good_first NotMarks = good_one
+pub good_first : (f : Option ℕ) → Good (first_record f)
+good_first (Some n) = if (marks_ok most_marks n) (λ e. rw e (good_opened n e)) (λ e. rw e good_one)
+good_first None = good_one
 
 step_some : (k : ℕ) (s : State) (row : Row) → Good (record_in s) → (t : State) × (now : List ℕ) × Step k s row t now × Good (record_in t)
 step_some k first row good =

@@ -5,6 +5,7 @@ use mathlib.Core.Bool.{Bool, true, false, not, cond, ◌||◌}
 use mathlib.Core.List.{List, [], ◌∷◌, ◌++◌}
 use native.Mathlib.Omega.{arith}
 use lib.Dec.{eqb}
+use Rattle.std.specs.Prelude.{Some, None}
 use Rattle.ground.specs.Figures.{figures}
 use Rattle.boxes.specs.Boxes.{sum_in, contains, agrees, through}
 use Rattle.boxes.specs.Sums.{sum}
@@ -22,9 +23,8 @@ use Rattle.sheet.specs.Limits.{marks_ok, amount_ok}
 use Rattle.changes.specs.declared.Call.TheVariants.{Change, Receive, Withdraw}
 use Rattle.machine.specs.Rows.{whole, rows_from, judged}
 use Rattle.machine.specs.Machine.{Onward}
-use Rattle.times.specs.declared.Form.TheVariants.{NoTime, Minutes}
+use Rattle.times.specs.declared.Form.TheVariants.{Minutes}
 use Rattle.lines.specs.declared.Order.TheVariants.{Make}
-use Rattle.lines.specs.declared.First.TheVariants.{Marks}
 use Rattle.lines.specs.Words.{written, enters, receives, withdraws, ends, said, marks, RowAsks, RowOpens}
 use Rattle.desk.specs.Sample.{sample_input, sample_output}
 use Rattle.desk.specs.Prints.{heads, box_line, box_lines, last_line, page, opens, made, ended, Stop, Prints}
@@ -67,19 +67,19 @@ time_240 : Readable (ascii "4:00") 240 Minutes
 unfolding clock decimal decimal_in
 time_240 = clock_readable 240 (omega arith)
 
-enter : (c : ℕ) (line : List ℕ) → c < 4 → line ≡ ascii "in " ++ written 2 c → RowAsks 2 (whole line) (Make (Change In c) NoTime)
+enter : (c : ℕ) (line : List ℕ) → c < 4 → line ≡ ascii "in " ++ written 2 c → RowAsks 2 (whole line) (Make (Change In c) None)
 enter c line h e = RowAsks.read (said (enters (record { small = h; text = e })))
 
-receive : (c d : ℕ) (line time : List ℕ) → c < 4 → Readable time d Minutes → line ≡ ascii "recv " ++ written 2 c ++ ascii " " ++ time → RowAsks 2 (whole line) (Make (Receive c d) Minutes)
+receive : (c d : ℕ) (line time : List ℕ) → c < 4 → Readable time d Minutes → line ≡ ascii "recv " ++ written 2 c ++ ascii " " ++ time → RowAsks 2 (whole line) (Make (Receive c d) (Some Minutes))
 receive c d line time h t e = RowAsks.read (said (receives (record { small = h; time = time; readable = t; text = e })))
 
-withdraw : (c d : ℕ) (line time : List ℕ) → c < 4 → Readable time d Minutes → line ≡ ascii "gone " ++ written 2 c ++ ascii " " ++ time → RowAsks 2 (whole line) (Make (Withdraw c d) Minutes)
+withdraw : (c d : ℕ) (line time : List ℕ) → c < 4 → Readable time d Minutes → line ≡ ascii "gone " ++ written 2 c ++ ascii " " ++ time → RowAsks 2 (whole line) (Make (Withdraw c d) (Some Minutes))
 withdraw c d line time h t e = RowAsks.read (said (withdraws (record { small = h; time = time; readable = t; text = e })))
 
 pub sample : Prints sample_input sample_output
 unfolding rows_from judged figures marks_ok amount_ok sum entering page heads box_line box_lines last_line decimal decimal_in clock pattern sum_in contains agrees
 sample =
-    Onward.line {now = []} (opens {f = Marks 2} (RowOpens.read (marks {n = 2} (omega arith, refl))) refl)
+    Onward.line {now = []} (opens {f = Some 2} (RowOpens.read (marks {n = 2} (omega arith, refl))) refl)
     (Onward.line {now = []} (made {c = Change In 1} (enter 1 (ascii "in 01") (omega arith) refl))
     (Onward.line {now = []} (made {c = Change In 2} (enter 2 (ascii "in 10") (omega arith) refl))
     (Onward.line {now = []} (made {c = Change In 3} (enter 3 (ascii "in 11") (omega arith) refl))

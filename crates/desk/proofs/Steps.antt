@@ -3,6 +3,7 @@ use Prim.Native.Nat.{ℕ, ◌≤◌}
 use mathlib.Core.Path.{◌≡◌, refl, sym, ap, ◌∙◌, subst}
 use mathlib.Core.List.{List, []}
 use native.Mathlib.Omega.{arith}
+use Rattle.std.specs.Prelude.{Option, Some, None}
 use Rattle.ground.specs.Areas.{Wrote}
 use Rattle.ground.proofs.Areas.{wrote_none}
 use Rattle.ground.proofs.Cases.{if}
@@ -23,8 +24,6 @@ use Rattle.machine.proofs.Steps.{answered, refused}
 use Rattle.lines.specs.declared.Order.{Order}
 use Rattle.times.specs.declared.Form.{Form}
 use Rattle.lines.specs.declared.Order.TheVariants.{Make, End, Unreadable}
-use Rattle.lines.specs.declared.First.{First}
-use Rattle.lines.specs.declared.First.TheVariants.{Marks, NotMarks}
 use Rattle.lines.specs.Words.{RowAsks, RowOpens}
 use Rattle.lines.proofs.Settled.{row_opens_settled}
 use Rattle.desk.specs.Prints.{first_number, first_record, State, first, going, over, opens, shut, made, unread, ended, Step, Stop, holdings}
@@ -38,19 +37,19 @@ use Rattle.desk.specs.declared.stages.Stepped.{Stepped}
 
 -- what line 1 is answered
 
-pub first_lost : {row : Row} {f : First} {sheet : Sheet} → RowOpens row f → f ≡ NotMarks → sheet ≡ sheet_of entries (opened 1)
+pub first_lost : {row : Row} {f : Option ℕ} {sheet : Sheet} → RowOpens row f → f ≡ None → sheet ≡ sheet_of entries (opened 1)
     → FirstAnswered row (record { number = 10; sheet = sheet })
-first_lost {row} w q e = record { says = NotMarks; opens = subst (RowOpens row) q w; is = ap (λ (s : Sheet). record { number = 10; sheet = s }) e }
+first_lost {row} w q e = record { says = None; opens = subst (RowOpens row) q w; is = ap (λ (s : Sheet). record { number = 10; sheet = s }) e }
 
-pub first_marks : {row : Row} {f : First} {n : ℕ} {a : Answer} → RowOpens row f → f ≡ Marks n → a ≡ open_of most_marks entries n → FirstAnswered row a
-first_marks {row} {n = n} w q e = record { says = Marks n; opens = subst (RowOpens row) q w; is = e ∙ go }
+pub first_marks : {row : Row} {f : Option ℕ} {n : ℕ} {a : Answer} → RowOpens row f → f ≡ Some n → a ≡ open_of most_marks entries n → FirstAnswered row a
+first_marks {row} {n = n} w q e = record { says = Some n; opens = subst (RowOpens row) q w; is = e ∙ go }
   where
-    go : ◌≡◌ {A = Answer} (open_of most_marks entries n) (record { number = first_number (Marks n); sheet = sheet_of entries (first_record (Marks n)) })
+    go : ◌≡◌ {A = Answer} (open_of most_marks entries n) (record { number = first_number (Some n); sheet = sheet_of entries (first_record (Some n)) })
     go = if (marks_ok most_marks n) (λ q. rw q) (λ q. rw q)
 
 pub first_settled : {row : Row} {a b : Answer} → FirstAnswered row a → FirstAnswered row b → a ≡ b
 first_settled f g =
-    f.is ∙ ap (λ (x : First). record { number = first_number x; sheet = sheet_of entries (first_record x) }) (row_opens_settled f.opens g.opens) ∙ sym g.is
+    f.is ∙ ap (λ (x : Option ℕ). record { number = first_number x; sheet = sheet_of entries (first_record x) }) (row_opens_settled f.opens g.opens) ∙ sym g.is
 
 -- line 1
 
@@ -82,7 +81,7 @@ module _ {sheet : Sheet} {r : Record} (of : OfRecord sheet r) where
     asks e = subst (RowAsks r.marks row) e (subst (λ (s : Sheet). RowAsks s.marks row o) of.is asked)
 
     module _ {k w : ℕ} {out later : List ℕ} where
-      pub later_made : {c : Call} {f : Form} {a : Answer} → o ≡ Make c f → a ≡ did_of most_marks sheet c → Wrote out 0 (spoken k a.number) w later → w ≤ page_room
+      pub later_made : {c : Call} {f : Option Form} {a : Answer} → o ≡ Make c f → a ≡ did_of most_marks sheet c → Wrote out 0 (spoken k a.number) w later → w ≤ page_room
           → SteppedTo k (going r) row out (led_to Going a.sheet w) later
       later_made {c} {a = a} q e p short =
           let is : a ≡ record { number = number_of r c; sheet = sheet_of entries (after r c) } =

@@ -1,4 +1,5 @@
 -- What the functions of the desk tell each other.
+use Rattle.std.specs.Prelude.{Option}
 use Rattle.std.specs.Prelude.{ℕ, ◌+◌, ◌*◌, ◌≤◌, ◌<◌, ◌≡◌, List, length, get_or}
 use Rattle.ground.specs.Areas.{Wrote}
 use Rattle.lists.specs.Lists.{most_lines}
@@ -8,7 +9,6 @@ use Rattle.sheet.specs.declared.Sheet.{Sheet}
 use Rattle.sheet.specs.Told.{Answer}
 use Rattle.histories.specs.Histories.{Good}
 use Rattle.machine.specs.Rows.{Row}
-use Rattle.lines.specs.declared.First.{First}
 use Rattle.lines.specs.Words.{RowOpens}
 use Rattle.desk.specs.Prints.{Result, first_number, first_record}
 use Rattle.desk.specs.declared.stages.Stage.{Stage}
@@ -27,7 +27,7 @@ led_to stage sheet wrote = record { desk = record { stage = stage; sheet = sheet
 
 -- what line 1 is answered, and the sheet that it opens
 pub record FirstAnswered (row : Row) (a : Answer) : Type 0 where
-  pub says : First
+  pub says : Option ℕ
   pub opens : RowOpens row says
   pub is : a ≡ record { number = first_number says; sheet = sheet_of entries (first_record says) }
 

@@ -1,6 +1,7 @@
 -- What a desk session prints (01, 'Desk program'): which output bytes belong to which input bytes. It is told line by line: what a line leads to and
 -- prints at once (`Step`), and what the end of the input prints (`Stop`); machine/specs/Machine puts these together. Calls are made on the record of
 -- marks, standings and times; the printed list is the first shortest one.
+use Rattle.std.specs.Prelude.{Option, Some, None}
 use Rattle.std.specs.Prelude.{ℕ, ◌≡◌, cond, List, [], ◌∷◌, ◌++◌, length}
 use Rattle.boxes.specs.Boxes.{sum_in}
 use Rattle.lists.specs.Lists.{FirstShortest}
@@ -16,8 +17,6 @@ use Rattle.machine.specs.Rows.{Row}
 use Rattle.machine.specs.Machine.{Machine, Output, refusal, spoken}
 use Rattle.times.specs.declared.Form.{Form}
 use Rattle.lines.specs.declared.Order.TheVariants.{Make, End, Unreadable}
-use Rattle.lines.specs.declared.First.{First}
-use Rattle.lines.specs.declared.First.TheVariants.{Marks, NotMarks}
 use Rattle.lines.specs.Words.{RowAsks, RowOpens}
 
 -- texts
@@ -52,13 +51,13 @@ pub record Result (r : Record) (text : List ℕ) : Type 0 where
 -- lines
 
 -- line 1: 10 for what isn't `marks` and one digit, 1 for marks not 1 to 5; and the record that it opens
-abbrev pub first_number : First → ℕ
-first_number (Marks n) = cond (marks_ok most_marks n) 0 1
-first_number NotMarks = 10
+abbrev pub first_number : Option ℕ → ℕ
+first_number (Some n) = cond (marks_ok most_marks n) 0 1
+first_number None = 10
 
-abbrev pub first_record : First → Record
-first_record (Marks n) = cond (marks_ok most_marks n) (opened n) (opened 1)
-first_record NotMarks = opened 1
+abbrev pub first_record : Option ℕ → Record
+first_record (Some n) = cond (marks_ok most_marks n) (opened n) (opened 1)
+first_record None = opened 1
 
 -- where a session stands: in front of line 1, behind it with a record, or over with the record that it ended with
 pub data State : Type 0 where
@@ -69,10 +68,10 @@ pub data State : Type 0 where
 -- line k: the state behind it, and what is printed at once
 pub data Step (k : ℕ) : State → Row → State → List ℕ → Type 0 where
   -- line 1 opens a sheet; if it is refused nothing else is printed
-  opens : {row : Row} {f : First} → RowOpens row f → first_number f ≡ 0 → Step k first row (going (first_record f)) []
-  shut : {row : Row} {f : First} → RowOpens row f → (first_number f ≡ 0 → ⊥) → Step k first row (over (first_record f)) (refusal k (first_number f))
+  opens : {row : Row} {f : Option ℕ} → RowOpens row f → first_number f ≡ 0 → Step k first row (going (first_record f)) []
+  shut : {row : Row} {f : Option ℕ} → RowOpens row f → (first_number f ≡ 0 → ⊥) → Step k first row (over (first_record f)) (refusal k (first_number f))
   -- a later line makes a call, cannot be read, or is `end`, and the result is printed
-  made : {r : Record} {row : Row} {c : Call} {f : Form} → RowAsks r.marks row (Make c f) → Step k (going r) row (going (after r c)) (spoken k (number_of r c))
+  made : {r : Record} {row : Row} {c : Call} {f : Option Form} → RowAsks r.marks row (Make c f) → Step k (going r) row (going (after r c)) (spoken k (number_of r c))
   unread : {r : Record} {row : Row} → RowAsks r.marks row Unreadable → Step k (going r) row (going r) (refusal k 10)
   ended : {r : Record} {row : Row} {text : List ℕ} → RowAsks r.marks row End → Result r text → Step k (going r) row (over r) text
   -- nothing is printed when it is over

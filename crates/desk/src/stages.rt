@@ -10,7 +10,7 @@ ghost use Rattle.desk.specs.Parts.{OfRecord, SheetOfRecord, led_to, FirstAnswere
 use crate::page;
 use changes;
 use lines;
-use lines::{First, Order};
+use lines::Order;
 use machine;
 use machine::Line;
 use sheet::{Answer, Sheet};
@@ -68,7 +68,7 @@ pub fn first_answer(line: Line) -> Answer
     ensures { FirstAnswered (row_of line) result }
 {
     let first = lines::first_of(line);
-    let First::Marks(m) = first else {
+    let Some(m) = first else {
         let sheet = Sheet::opened(1);
         return Answer { number: 10, sheet };
     };

@@ -8,13 +8,13 @@ use lib.Seq.{append_snoc}
 use Rattle.ground.specs.Texts.{ascii}
 use Rattle.ground.proofs.Without.{Without, without_append, without_behind, last_at}
 use Rattle.ground.proofs.Figures.{figures_without}
+use Rattle.std.specs.Prelude.{Option, Some}
 use Rattle.times.specs.declared.Form.{Form}
 use Rattle.times.specs.Texts.{Readable}
 use Rattle.times.proofs.Bytes.{no_space, some_colon}
 use Rattle.changes.specs.declared.Call.{Call}
 use Rattle.lines.specs.declared.Order.{Order}
 use Rattle.lines.specs.declared.Order.TheVariants.{Make, Unreadable}
-use Rattle.lines.specs.declared.First.{First}
 use Rattle.lines.specs.Words.{written, Names, NamesAmount, Says, enters, leaves, receives, withdraws, ends, Asked, said, nothing, MarksLine, Opens, marks}
 use Rattle.lines.specs.Forms.{OtherForm}
 use Rattle.lines.proofs.Settled.{same_time}
@@ -46,7 +46,7 @@ names_plain {m} {c} {verb} v n = subst (Without 58) (sym n.text) (without_append
 
 pub record Again (m : ℕ) (a other : List ℕ) (c : Call) : Type 0 where
   pub rest : List ℕ
-  pub form : Form
+  pub form : Option Form
   pub text : other ≡ a ++ rest
   pub says : Says m rest (Make c form)
 
@@ -69,26 +69,26 @@ module _ {m : ℕ} {line other : List ℕ} (o : OtherForm line other) (a : List 
         record { small = n.small; time = o.two.time; readable = subst (λ (v : ℕ). Readable o.two.time v o.two.form) s o.two.readable; text = refl },
       )
 
-  pub call_again : {rest : List ℕ} {c : Call} {f : Form} → Without 58 a → line ≡ a ++ rest → Says m rest (Make c f) → Again m a other c
+  pub call_again : {rest : List ℕ} {c : Call} {f : Option Form} → Without 58 a → line ≡ a ++ rest → Says m rest (Make c f) → Again m a other c
   call_again {rest} p e (enters n) = absurd (has_colon o (subst (Without 58) (sym e) (without_append 58 a rest p (names_plain in-plain n))))
   call_again {rest} p e (leaves n) = absurd (has_colon o (subst (Without 58) (sym e) (without_append 58 a rest p (names_plain out_plain n))))
-  call_again p e (receives n) = let w = amount_again e n in record { rest = _; form = o.two.form; text = w.0; says = receives w.1 }
-  call_again p e (withdraws n) = let w = amount_again e n in record { rest = _; form = o.two.form; text = w.0; says = withdraws w.1 }
+  call_again p e (receives n) = let w = amount_again e n in record { rest = _; form = Some o.two.form; text = w.0; says = receives w.1 }
+  call_again p e (withdraws n) = let w = amount_again e n in record { rest = _; form = Some o.two.form; text = w.0; says = withdraws w.1 }
 
 -- the same is asked for, but for the form
 pub data SameCall : Order → Order → Type 0 where
-  made : {c : Call} {f g : Form} → SameCall (Make c f) (Make c g)
+  made : {c : Call} {f g : Option Form} → SameCall (Make c f) (Make c g)
   unread : SameCall Unreadable Unreadable
 
 module _ {m : ℕ} {line other : List ℕ} (o : OtherForm line other) where
-  says_again : {c : Call} {f : Form} → Says m line (Make c f) → (g : Form) × Says m other (Make c g)
+  says_again : {c : Call} {f : Option Form} → Says m line (Make c f) → (g : Option Form) × Says m other (Make c g)
   unfolding Without
   says_again {c} s =
       let w = call_again o [] tt refl s in
       (w.form, subst (λ (t : List ℕ). Says m t (Make c w.form)) (sym w.text) w.says)
 
   -- it says no more than that
-  only_calls : (P : Order → Type 0) {p : Order} → ((c : Call) (f : Form) → Says m line (Make c f) → P (Make c f)) → Says m line p → P p
+  only_calls : (P : Order → Type 0) {p : Order} → ((c : Call) (f : Option Form) → Says m line (Make c f) → P (Make c f)) → Says m line p → P p
   only_calls P g (enters n) = g _ _ (enters n)
   only_calls P g (leaves n) = g _ _ (leaves n)
   only_calls P g (receives n) = g _ _ (receives n)
@@ -109,6 +109,6 @@ module _ {line other : List ℕ} (o : OtherForm line other) where
   other_asked (nothing n) =
       (Unreadable, nothing (λ p s. only_calls (flip o) (λ q. ⊥) (λ c f k. n _ (says_again (flip o) k).1) s), unread)
 
-  pub other_opens : {f : First} → Opens line f → Opens other f
+  pub other_opens : {f : Option ℕ} → Opens line f → Opens other f
   other_opens (marks k) = absurd (has_colon o (marks_plain k))
   other_opens (Opens.other n) = Opens.other (λ k w. has_colon (flip o) (marks_plain w))

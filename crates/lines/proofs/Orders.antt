@@ -3,15 +3,15 @@ use Prim.Native.Nat.{ℕ, ◌+◌, ◌-◌, ◌<◌, ◌≤◌}
 use mathlib.Core.Path.{◌≡◌, refl, sym, ap, ◌∙◌, subst}
 use mathlib.Core.Bool.{cond}
 use mathlib.Core.List.{List, [], ◌∷◌, ◌++◌, append_assoc}
-use native.Mathlib.Numerals.{add-one}
 use native.Mathlib.Omega.{arith}
 use lib.Dec.{eqb}
-use lib.ListN.{length, get_or, take, drop, length-append, length-drop}
-use lib.Seq.{take_all, take_at, drop_at, get_or_at, split_at, drop-append_seam, append_snoc}
+use lib.ListN.{length, get_or, take, drop, length-append, take-append-drop}
+use lib.Seq.{take_all, take_at, drop_at, drop-append_seam, append_snoc}
+use Rattle.std.specs.Prelude.{Option, Some, None}
 use Rattle.times.specs.declared.Form.{Form}
-use Rattle.times.specs.declared.Form.TheVariants.{NoTime}
 use Rattle.times.specs.declared.Time.TheVariants.{Value, Fault}
-use Rattle.ground.specs.Texts.{ascii, Begins}
+use Rattle.std.proofs.Common.{unwrap_or}
+use Rattle.ground.specs.Texts.{ascii}
 use Rattle.ground.proofs.Figures.{figures-length}
 use Rattle.times.specs.Texts.{Readable}
 use Rattle.times.specs.Places.{ReadsAs, value, fault}
@@ -19,26 +19,21 @@ use Rattle.classes.specs.declared.Standing.TheVariants.{In, Out}
 use Rattle.changes.specs.declared.Call.TheVariants.{Change, Receive, Withdraw}
 use Rattle.lines.specs.declared.Order.{Order}
 use Rattle.lines.specs.declared.Order.TheVariants.{Make, End, Unreadable}
-use Rattle.lines.specs.declared.First.TheVariants.{Marks, NotMarks}
-use Rattle.lines.specs.declared.Pattern.TheVariants.{Combination, NoPattern}
-use Rattle.lines.specs.declared.Amount.TheVariants.{Seconds, NoAmount}
-use Rattle.lines.specs.Words.{written, Names, NamesAmount, Says, Asked, said, nothing, Opens, marks, other}
-use Rattle.lines.specs.Parts.{Patterned, Amounts}
+use Rattle.lines.specs.Words.{written, Names, NamesAmount, Says, Asked, said, nothing, MarksLine, Opens, marks, other}
+use Rattle.lines.specs.Parts.{Patterned, Amounts, SaysOrNot}
 
 -- P, one space and T
 
+-- a text that begins with a space is the space and what is behind it
+pub spaced : (rest : List ℕ) → 1 ≤ length rest → get_or rest 0 0 ≡ 32 → rest ≡ 32 ∷ take (length rest - 1) (drop 1 rest)
+spaced [] h e = absurd (omega arith)
+spaced (x ∷ rest) h e = ap (λ (y : ℕ). y ∷ rest) e ∙ ap (λ (l : List ℕ). 32 ∷ l) (sym (take_all (length (x ∷ rest) - 1) rest (omega arith)))
+
 module _ (m : ℕ) (part : List ℕ) where
-  pub amount_short : length part ≤ m → Amounts m part NoAmount
+  pub amount_short : length part ≤ m → Amounts m part None
   amount_short h =
       λ c d f n.
       omega (arith, ap length n.text, figures-length 2 m c, length-append (written m c ++ ascii " ") n.time, length-append (written m c) (ascii " "))
-
-  space_at : {c d : ℕ} {f : Form} (n : NamesAmount m [] part c d f) → get_or part m 0 ≡ 32
-  space_at {c} n =
-      ap (λ (l : List ℕ). get_or l m 0) (n.text ∙ append_snoc (written m c) 32 n.time) ∙ get_or_at (written m c) 32 n.time 0 m (figures-length 2 m c)
-
-  pub amount_unspaced : (get_or part m 0 ≡ 32 → ⊥) → Amounts m part NoAmount
-  amount_unspaced q = λ c d f n. q (space_at n)
 
   pub front_at : {c d : ℕ} {f : Form} (n : NamesAmount m [] part c d f) → Names m [] (take m part) c
   front_at {c} n = record {
@@ -46,33 +41,27 @@ module _ (m : ℕ) (part : List ℕ) where
     text = ap (take m) (n.text ∙ append_assoc (written m c) (ascii " ") n.time) ∙ take_at (written m c) (ascii " " ++ n.time) m (figures-length 2 m c);
   }
 
-  pub amount_unnamed : Patterned m (take m part) NoPattern → Amounts m part NoAmount
+  pub behind_at : {c d : ℕ} {f : Form} (n : NamesAmount m [] part c d f) → drop m part ≡ 32 ∷ n.time
+  behind_at {c} n = ap (drop m) (n.text ∙ append_assoc (written m c) (ascii " ") n.time) ∙ drop_at (written m c) (ascii " " ++ n.time) m (figures-length 2 m c)
+
+  pub amount_unspaced : (get_or (drop m part) 0 0 ≡ 32 → ⊥) → Amounts m part None
+  amount_unspaced q = λ c d f n. q (ap (λ (l : List ℕ). get_or l 0 0) (behind_at n))
+
+  pub amount_unnamed : Patterned m (take m part) None → Amounts m part None
   amount_unnamed q = λ c d f n. q c (front_at n)
 
-  pub time_at : {c d : ℕ} {f : Form} (n : NamesAmount m [] part c d f) → drop (m + 1) part ≡ n.time
-  time_at {c} n = ap (drop (m + 1)) n.text ∙ drop_at (written m c ++ ascii " ") n.time (m + 1) (omega (arith, length-append (written m c) (ascii " "), figures-length 2 m c))
+  module _ {time : List ℕ} (e : drop m part ≡ 32 ∷ time) where
+    pub amount_untimed : {p : ℕ} → ReadsAs Readable time (Fault p) → Amounts m part None
+    amount_untimed (fault q x) = λ c d f n. let w : time ≡ n.time = cc (e, behind_at n) in q d f (subst (λ (t : List ℕ). Readable t d f) (sym w) n.readable)
 
-  -- the part behind the space, as it is lent
-  time_lent : take (length part - (m + 1)) (drop (m + 1) part) ≡ drop (m + 1) part
-  time_lent = take_all (length part - (m + 1)) (drop (m + 1) part) (omega (arith, length-drop (m + 1) part))
-
-  pub amount_untimed : {p : ℕ} → ReadsAs Readable (take (length part - (m + 1)) (drop (m + 1) part)) (Fault p) → Amounts m part NoAmount
-  amount_untimed (fault q x) = λ c d f n. q d f (subst (λ (t : List ℕ). Readable t d f) (sym (time_lent ∙ time_at n)) n.readable)
-
-  pub amount_read : {c d : ℕ} {f : Form} → m < length part → get_or part m 0 ≡ 32 → Patterned m (take m part) (Combination c)
-      → ReadsAs Readable (take (length part - (m + 1)) (drop (m + 1) part)) (Value d f) → Amounts m part (Seconds c d f)
-  amount_read {c} {d} {f} h s n (value r) =
-      record {
-        small = n.small;
-        time = drop (m + 1) part;
-        readable = subst (λ (t : List ℕ). Readable t d f) time_lent r;
-        text =
-            split_at part m 0 h
-            ∙ ap (λ (n : ℕ). take m part ++ get_or part m 0 ∷ drop n part) (sym (add-one m))
-            ∙ ap (λ (x : ℕ). take m part ++ x ∷ drop (m + 1) part) s
-            ∙ ap (λ (l : List ℕ). l ++ 32 ∷ drop (m + 1) part) n.text
-            ∙ sym (append_snoc (written m c) 32 (drop (m + 1) part));
-      }
+    pub amount_read : {c d : ℕ} {f : Form} → Patterned m (take m part) (Some c) → ReadsAs Readable time (Value d f) → Amounts m part (Some (c, d, f))
+    amount_read {c} n (value r) =
+        record {
+          small = n.small;
+          time = time;
+          readable = r;
+          text = sym (take-append-drop m part) ∙ ap (λ (l : List ℕ). take m part ++ l) e ∙ ap (λ (l : List ℕ). l ++ 32 ∷ time) n.text ∙ sym (append_snoc (written m c) 32 time);
+        }
 
 -- verbs: their words, and the verb that a first letter stands for
 
@@ -106,10 +95,10 @@ one_verb v w a b e = sym (verb_of_word v a) ∙ ap (λ (l : List ℕ). verb_of (
 
 -- what the part behind a verb says
 pub data Part (m : ℕ) : Verb → List ℕ → Order → Type 0 where
-  enters : {part : List ℕ} {c : ℕ} → Names m [] part c → Part m enter part (Make (Change In c) NoTime)
-  leaves : {part : List ℕ} {c : ℕ} → Names m [] part c → Part m leave part (Make (Change Out c) NoTime)
-  receives : {part : List ℕ} {c d : ℕ} {f : Form} → NamesAmount m [] part c d f → Part m receive part (Make (Receive c d) f)
-  withdraws : {part : List ℕ} {c d : ℕ} {f : Form} → NamesAmount m [] part c d f → Part m withdraw part (Make (Withdraw c d) f)
+  enters : {part : List ℕ} {c : ℕ} → Names m [] part c → Part m enter part (Make (Change In c) None)
+  leaves : {part : List ℕ} {c : ℕ} → Names m [] part c → Part m leave part (Make (Change Out c) None)
+  receives : {part : List ℕ} {c d : ℕ} {f : Form} → NamesAmount m [] part c d f → Part m receive part (Make (Receive c d) (Some f))
+  withdraws : {part : List ℕ} {c d : ℕ} {f : Form} → NamesAmount m [] part c d f → Part m withdraw part (Make (Withdraw c d) (Some f))
   ends : Part m end [] End
 
 -- a line taken apart, and put together
@@ -153,7 +142,7 @@ module _ {m : ℕ} {line : List ℕ} where
     text = e ∙ ap (λ (l : List ℕ). verb ++ l) n.text ∙ sym (regroup verb (written m c) n.time);
   }
 
-  together : (v : Verb) {part : List ℕ} {o : Order} → line ≡ word v ++ part → Part m v part o → Says m line o
+  pub together : (v : Verb) {part : List ℕ} {o : Order} → line ≡ word v ++ part → Part m v part o → Says m line o
   together enter e (enters n) = Says.enters (with_names (ascii "in ") e n)
   together leave e (leaves n) = Says.leaves (with_names (ascii "out ") e n)
   together receive e (receives n) = Says.receives (with_amount (ascii "recv ") e n)
@@ -168,15 +157,12 @@ module _ {m : ℕ} {line : List ℕ} where
       let t : a.part ≡ part = cancel (word v) a.part part (ap (λ (x : Verb). word x ++ a.part) (sym w) ∙ sym a.text ∙ e) in
       subst (λ (x : Verb). Part m x part o) w (subst (λ (l : List ℕ). Part m a.verb l o) t a.says)
 
-  pub asked_said : (v : Verb) {part : List ℕ} {o : Order} → line ≡ word v ++ part → Part m v part o → Asked m line o
-  asked_said v e p = said (together v e p)
-
-  pub asked_unsaid : (v : Verb) (part : List ℕ) → line ≡ word v ++ part → ((o : Order) → Part m v part o → ⊥) → Asked m line Unreadable
-  asked_unsaid v part e n = nothing (λ o s. n o (apart_same v part e s))
+  pub unsaid : (v : Verb) (part : List ℕ) → line ≡ word v ++ part → ((o : Order) → Part m v part o → ⊥) → SaysOrNot m line None
+  unsaid v part e n = λ o s. n o (apart_same v part e s)
 
 -- a line with none of the verbs
-pub asked_nothing : (m : ℕ) (line : List ℕ) → ((v : Verb) → Begins (word v) line → ⊥) → Asked m line Unreadable
-asked_nothing m line n = nothing (λ o s. let a = apart s in n a.verb (a.part, a.text))
+pub none_said : (m : ℕ) (line : List ℕ) → ((v : Verb) (part : List ℕ) → line ≡ word v ++ part → ⊥) → SaysOrNot m line None
+none_said m line n = λ o s. let a = apart s in n a.verb a.part a.text
 
 -- a part that is not what its verb asks for says nothing
 
@@ -193,37 +179,39 @@ module _ {m : ℕ} {part : List ℕ} where
   pub withdraw_unsaid : ((c d : ℕ) (f : Form) → NamesAmount m [] part c d f → ⊥) → (o : Order) → Part m withdraw part o → ⊥
   withdraw_unsaid q o (withdraws n) = q _ _ _ n
 
--- `end` and nothing behind it, or something
-module _ {m : ℕ} {line : List ℕ} (b : Begins (ascii "end") line) where
-  pub asked_end : length line ≡ 3 → Asked m line End
-  asked_end h = go b.0 b.1
-    where
-      go : (rest : List ℕ) → line ≡ ascii "end" ++ rest → Asked m line End
-      go [] e = said (Says.ends e)
-      go (x ∷ rest) e = absurd (omega (arith, ap length e))
+-- `end`, and nothing behind it
+pub said_end : {m : ℕ} {line part : List ℕ} → line ≡ ascii "end" ++ part → length part < 1 → Says m line End
+said_end {part = []} e h = Says.ends e
+said_end {part = x ∷ part} e h = absurd (omega arith)
 
-  pub asked_more : (length line ≡ 3 → ⊥) → Asked m line Unreadable
-  asked_more n = asked_unsaid end b.0 b.1 (unsaid b.1)
-    where
-      unsaid : {part : List ℕ} → line ≡ ascii "end" ++ part → (o : Order) → Part m end part o → ⊥
-      unsaid e o ends = n (ap length e)
+pub end_unsaid : {m : ℕ} {part : List ℕ} → (part ≡ [] → ⊥) → (o : Order) → Part m end part o → ⊥
+end_unsaid q o ends = q refl
+
+-- a line asks for what it says, or for nothing
+pub asked_of : {m : ℕ} {line : List ℕ} (r : Option Order) → SaysOrNot m line r → Asked m line (unwrap_or r Unreadable)
+asked_of (Some o) s = said s
+asked_of None n = nothing n
 
 -- line 1
 
-module _ (line : List ℕ) where
-  pub opens_other : (Begins (ascii "marks ") line → ⊥) → Opens line NotMarks
-  opens_other b = other (λ n k. b ((48 + n) ∷ [], k.1))
+pub opens_other : (line : List ℕ) → ((part : List ℕ) → line ≡ ascii "marks " ++ part → ⊥) → Opens line None
+opens_other line b = other (λ n k. b ((48 + n) ∷ []) k.1)
 
-  pub opens_long : (length line ≡ 7 → ⊥) → Opens line NotMarks
-  opens_long q = other (λ n k. q (ap length k.1))
+-- one digit stands behind `marks`, or something else
+module _ (line part : List ℕ) (e : line ≡ ascii "marks " ++ part) where
+  digit_behind : {n : ℕ} → MarksLine line n → part ≡ (48 + n) ∷ []
+  digit_behind {n} k = cancel (ascii "marks ") part ((48 + n) ∷ []) (sym e ∙ k.1)
 
-  pub opens_byte : ((48 ≤ get_or line 6 0) × (get_or line 6 0 ≤ 57) → ⊥) → Opens line NotMarks
-  opens_byte q = other (λ n k. let e : get_or line 6 0 ≡ 48 + n = ap (λ (l : List ℕ). get_or l 6 0) k.1 in let h = k.0 in q (omega arith, omega arith))
+  pub opens_long : (length part ≡ 1 → ⊥) → Opens line None
+  opens_long q = other (λ n k. q (ap length (digit_behind k)))
 
-  pub opens_marks : (n : ℕ) → Begins (ascii "marks ") line → length line ≡ 7 → n ≤ 9 → get_or line 6 0 ≡ 48 + n → Opens line (Marks n)
-  opens_marks n b h k e = go b.0 b.1
+  pub opens_byte : ((48 ≤ get_or part 0 0) × (get_or part 0 0 ≤ 57) → ⊥) → Opens line None
+  opens_byte q = other (λ n k. let w = ap (λ (l : List ℕ). get_or l 0 0) (digit_behind k) in let h = k.0 in q (omega arith, omega arith))
+
+  pub opens_marks : (n : ℕ) → length part ≡ 1 → n ≤ 9 → get_or part 0 0 ≡ 48 + n → Opens line (Some n)
+  opens_marks n l h w = marks (h, e ∙ ap (λ (t : List ℕ). ascii "marks " ++ t) (one part l w))
     where
-      go : (rest : List ℕ) → line ≡ ascii "marks " ++ rest → Opens line (Marks n)
-      go [] q = absurd (omega (arith, ap length q))
-      go (x ∷ []) q = marks (k, q ∙ ap (λ (y : ℕ). ascii "marks " ++ y ∷ []) (sym (ap (λ (l : List ℕ). get_or l 6 0) q) ∙ e))
-      go (x ∷ y ∷ rest) q = absurd (omega (arith, ap length q))
+      one : (t : List ℕ) → length t ≡ 1 → get_or t 0 0 ≡ 48 + n → t ≡ (48 + n) ∷ []
+      one [] l w = absurd (omega arith)
+      one (x ∷ []) l w = ap (λ (y : ℕ). y ∷ []) w
+      one (x ∷ y ∷ t) l w = absurd (omega arith)

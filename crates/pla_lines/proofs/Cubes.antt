@@ -5,12 +5,12 @@ use mathlib.Core.List.{List, [], ◌∷◌, ◌++◌}
 use native.Mathlib.Nat.{pow-suc, pow-le-pow_right}
 use native.Mathlib.Numerals.{add-one}
 use native.Mathlib.Omega.{arith}
+use Rattle.std.specs.Prelude.{Some, None}
 use lib.ListN.{length, get_or, take}
 use lib.Seq.{take-suc, take_all}
 use Rattle.print.specs.Texts.{sign, pattern}
 use Rattle.print.proofs.Digits.{pattern-length, pattern_grows, pattern-sign}
 use Rattle.sheet.specs.Limits.{most_marks}
-use Rattle.pla_lines.specs.declared.sayings.Cube.TheVariants.{Of, NoCube}
 use Rattle.pla_lines.specs.Parts.{Signed, Boxed, is, none}
 
 -- the first i signs are those of the box b
@@ -20,13 +20,11 @@ pub record Signs (w : List ℕ) (i b : ℕ) : Type 0 where
 
 -- a byte read as a sign
 
-pub signed : {c d : ℕ} → Signed c d → (d ≡ 3 → ⊥) → (d < 3) × (c ≡ sign d)
-signed (is l e) other = (l, e)
-signed (none z q) other = absurd (other z)
+pub signed : {c d : ℕ} → Signed c (Some d) → (d < 3) × (c ≡ sign d)
+signed (is l e) = (l, e)
 
-pub unsigned : {c d : ℕ} → Signed c d → d ≡ 3 → (e : ℕ) → e < 3 → c ≡ sign e → ⊥
-unsigned (is l e) z = absurd (omega arith)
-unsigned (none z q) y = q
+pub unsigned : {c : ℕ} → Signed c None → (e : ℕ) → e < 3 → c ≡ sign e → ⊥
+unsigned (none q) = q
 
 -- a box over fewer than five marks
 pub box_small : (i b : ℕ) → b < 3 ^ i → i < most_marks → b < 81
@@ -45,13 +43,13 @@ module _ (w : List ℕ) where
       })
 
   module _ (m : ℕ) where
-    pub cube_read : (b : ℕ) → Signs w m b → length w ≡ m → Boxed m w (Of b)
+    pub cube_read : (b : ℕ) → Signs w m b → length w ≡ m → Boxed m w (Some b)
     cube_read b s l = is s.small (sym (take_all m w (omega arith)) ∙ s.text)
 
     -- another length, and a byte that is no sign
 
-    pub cube_long : (length w ≡ m → ⊥) → Boxed m w NoCube
+    pub cube_long : (length w ≡ m → ⊥) → Boxed m w None
     cube_long other = none (λ b h e. other (ap length e ∙ pattern-length m b))
 
-    pub cube_other : (i : ℕ) → i < m → ((d : ℕ) → d < 3 → get_or w i 0 ≡ sign d → ⊥) → Boxed m w NoCube
+    pub cube_other : (i : ℕ) → i < m → ((d : ℕ) → d < 3 → get_or w i 0 ≡ sign d → ⊥) → Boxed m w None
     cube_other i h other = none (λ b l e. let s = pattern-sign m b i h in other s.0 s.1 (ap (λ (x : List ℕ). get_or x i 0) e ∙ s.2))

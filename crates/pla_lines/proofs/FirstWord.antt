@@ -1,19 +1,19 @@
 -- The words of a line from its front on: a gap is skipped, a word is what stands up to a gap or a stop, and behind a stop there is none.
-use Prim.Native.Nat.{ℕ, zero, suc, ◌≤◌, ◌<◌}
-use mathlib.Core.Path.{◌≡◌, refl, sym, ap, ◌∙◌}
-use mathlib.Core.Bool.{Bool, true, false, ◌||◌}
+use Prim.Native.Nat.{ℕ, zero, suc, ◌<◌}
+use mathlib.Core.Path.{◌≡◌, refl, sym, ap, ap₂, ◌∙◌, subst}
+use mathlib.Core.Bool.{Bool, true, false, not, ◌||◌}
 use mathlib.Core.List.{List, [], ◌∷◌, ◌++◌, append-nil}
 use native.Mathlib.Omega.{arith}
+use Rattle.std.specs.Prelude.{position, unwrap_or, Option, Some, None}
 use lib.Dec.{eqb}
-use lib.ListN.{length, take, drop, length-drop}
-use lib.Seq.{append_snoc}
+use lib.ListN.{length, take, drop}
+use lib.Seq.{append_snoc, drop-length}
 use borrow.Author.Tests.{eqb-true, not-true, not-false}
 use Rattle.ground.proofs.Cases.{if}
 use Rattle.pla.specs.Texts.{between_from, before_comment, filled, is_gap}
-use Rattle.pla_lines.specs.declared.words.Word.{Word}
 use Rattle.pla_lines.specs.Lines.{first_line, words_in, is_stop}
-use Rattle.pla_lines.specs.Parts.{Front, in_word, NextWord, none, some}
-use Rattle.pla_lines.proofs.Fronts.{front_first, front_next, from, from-drop}
+use Rattle.pla_lines.specs.Parts.{Front, in_word}
+use Rattle.pla_lines.proofs.Fronts.{front_first, front_next, front_none, front_some, front_or, from, from-drop}
 
 or_no_left : (x y : Bool) → (x || y) ≡ false → x ≡ false
 or_no_left true y e = e
@@ -94,27 +94,32 @@ words_first zero t f h = absurd (omega arith)
 words_first (suc n) [] f h = absurd (omega (arith, f.inside))
 words_first (suc n) (b ∷ t) f h = ap filled (word_byte [] b t (front_first f)) ∙ word_on b [] n t (front_next f)
 
-pub next_word : (t : List ℕ) (n k : ℕ) → Front is_gap t n → Front in_word (drop n t) k → NextWord t (record { gap = n; size = k })
-next_word t n zero f g = none refl (words_over n t f g)
-next_word t n (suc k) f g =
-    some (omega arith) (omega (arith, f.inside, g.inside, length-drop n t)) (words_behind n t f ∙ words_first (suc k) (drop n t) g (omega arith))
+-- gaps alone, a stop behind them, and a word: by where the first byte stands that is no gap, and the first behind it that is of no word
+not_not : (x : Bool) → x ≡ not (not x)
+not_not true = refl
+not_not false = refl
 
--- what the first word tells of all, with the bytes behind it as they are lent
-module _ {t : List ℕ} {w : Word} where
-  pub no_words : NextWord t w → w.size ≡ 0 → words_in t ≡ []
-  no_words (none z e) h = e
-  no_words (some l i e) h = absurd (omega arith)
+pub words_gaps : (t : List ℕ) → None ≡ position (λ b. not (is_gap b)) t → words_in t ≡ []
+words_gaps t e =
+    words_over (length t) t (front_none is_gap (λ b. not (is_gap b)) (λ b. not_not (is_gap b)) t (sym e))
+    (subst (λ u. Front in_word u 0) (sym (drop-length t))
+    (record { inside = omega arith; each = λ i h. absurd (omega arith); last = λ h. absurd (omega arith) }))
 
-  pub gap_inside : NextWord t w → (w.size ≡ 0 → ⊥) → w.gap ≤ length t
-  gap_inside (none z e) h = absurd (h z)
-  gap_inside (some l i e) h = omega arith
+module _ (t : List ℕ) {n k : ℕ} {o : Option ℕ} (gap : Some n ≡ position (λ b. not (is_gap b)) t) (word : o ≡ position (λ b. is_gap b || is_stop b) (from n t))
+    (size : k ≡ unwrap_or o (length (from n t))) where
+  behind_gap : Front is_gap t n
+  behind_gap = front_some is_gap (λ b. not (is_gap b)) (λ b. not_not (is_gap b)) t n (sym gap)
 
-  pub size_inside : NextWord t w → (w.size ≡ 0 → ⊥) → w.size ≤ length (from w.gap t)
-  size_inside (none z e) h = absurd (h z)
-  size_inside (some l i e) h = omega (arith, ap length (from-drop w.gap t), length-drop w.gap t)
+  behind_word : Front in_word (drop n t) k
+  behind_word =
+      subst (λ u. Front in_word u k) (from-drop n t)
+      (subst (Front in_word (from n t)) (sym (size ∙ ap (λ p. unwrap_or p (length (from n t))) word))
+      (front_or in_word (λ b. is_gap b || is_stop b) (λ b. refl) (from n t)))
 
-  pub word_split : NextWord t w → (w.size ≡ 0 → ⊥) → words_in t ≡ take w.size (from w.gap t) ∷ words_in (from w.size (from w.gap t))
-  word_split (none z e) h = absurd (h z)
-  word_split (some l i e) h =
-      e ∙ ap (λ (x : List ℕ). take w.size x ∷ words_in (drop w.size x)) (sym (from-drop w.gap t))
-      ∙ ap (λ (x : List ℕ). take w.size (from w.gap t) ∷ words_in x) (sym (from-drop w.size (from w.gap t)))
+  pub words_gone : k ≡ 0 → words_in t ≡ []
+  words_gone z = words_over n t behind_gap (subst (Front in_word (drop n t)) z behind_word)
+
+  pub word_split : {a b : List ℕ} → (k ≡ 0 → ⊥) → a ≡ take k (from n t) → b ≡ drop k (from n t) → words_in t ≡ a ∷ words_in b
+  word_split {a} {b} some front back =
+      words_behind n t behind_gap ∙ words_first k (drop n t) behind_word (omega (arith, some))
+      ∙ ap (λ u. take k u ∷ words_in (drop k u)) (sym (from-drop n t)) ∙ ap₂ (λ x y. x ∷ words_in y) (sym front) (sym back)

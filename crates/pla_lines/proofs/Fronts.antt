@@ -1,34 +1,45 @@
 -- Bytes passed one by one as long as a test holds of them, up to the `Front` of a text.
-use Prim.Native.Nat.{ℕ, suc, ◌+◌, ◌-◌, ◌≤◌, ◌<◌}
-use mathlib.Core.Path.{◌≡◌, ap, ◌∙◌}
-use mathlib.Core.Bool.{Bool, true, false}
+use Prim.Native.Nat.{ℕ, suc, ◌-◌, ◌≤◌}
+use mathlib.Core.Path.{◌≡◌, refl, ap, ◌∙◌}
+use mathlib.Core.Bool.{Bool, true}
 use mathlib.Core.List.{List, ◌∷◌}
 use native.Mathlib.Omega.{arith}
 use lib.ListN.{length, get_or, take, drop, length-drop}
 use lib.Seq.{take_all}
-use Rattle.ground.proofs.Cases.{same_or}
+use borrow.Author.Tests.{ltb-false}
+use Rattle.std.specs.Prelude.{nat_lt, not, position, unwrap_or, Option, Some, None}
+use Rattle.std.specs.List.{position_or_len}
+use Rattle.std.proofs.lemmas.List.Quantifiers.{position-Some}
+use Rattle.std.proofs.lemmas.List.Sums.{fails_before_first}
+use Rattle.ground.proofs.Cases.{if}
 use Rattle.pla_lines.specs.Parts.{Front}
 
--- the test holds of the first i bytes
-pub record Passed (p : ℕ → Bool) (t : List ℕ) (i : ℕ) : Type 0 where
-  pub inside : i ≤ length t
-  pub each : (j : ℕ) → j < i → p (get_or t j 0) ≡ true
+some_or_none : {n : ℕ} → Some n ≡ None → ⊥
+some_or_none e = cc
 
-pub passed_none : (p : ℕ → Bool) (t : List ℕ) → Passed p t 0
-passed_none p t = record { inside = omega arith; each = λ j h. absurd (omega arith) }
+-- the first byte of which the test does not hold, or the end
+module _ (p q : ℕ → Bool) (other : (b : ℕ) → p b ≡ not (q b)) (t : List ℕ) where
+  pub front_some : (n : ℕ) → position q t ≡ Some n → Front p t n
+  front_some n e =
+      let w = position-Some q t n 0 e in
+      record {
+        inside = omega (arith, w.0);
+        each = λ i h. other (get_or t i 0) ∙ ap not (w.2 i h);
+        last = λ h. other (get_or t n 0) ∙ ap not w.1;
+      }
 
-pub passed_more : {p : ℕ → Bool} {t : List ℕ} {i : ℕ} → Passed p t i → i < length t → p (get_or t i 0) ≡ true → Passed p t (i + 1)
-passed_more {p} {t} {i} w h e =
-    record {
-      inside = omega arith;
-      each = λ j l. same_or j i (λ q. ap (λ (x : ℕ). p (get_or t x 0)) q ∙ e) (λ n. w.each j (omega arith));
-    }
+  pub front_none : position q t ≡ None → Front p t (length t)
+  front_none e =
+      let past : length t ≤ position_or_len q t =
+      if (nat_lt (position_or_len q t) (length t)) (λ y. absurd (some_or_none (rw y at e))) (λ n. ltb-false _ _ n) in
+      record { inside = omega arith; each = λ i h. other (get_or t i 0) ∙ ap not (fails_before_first q t i 0 (omega (arith, past))); last = λ h. absurd (omega arith) }
 
-pub front_here : {p : ℕ → Bool} {t : List ℕ} {i : ℕ} → Passed p t i → p (get_or t i 0) ≡ false → Front p t i
-front_here w e = record { inside = w.inside; each = w.each; last = λ h. e }
-
-pub front_all : {p : ℕ → Bool} {t : List ℕ} {i : ℕ} → Passed p t i → length t ≤ i → Front p t i
-front_all w l = record { inside = w.inside; each = w.each; last = λ h. absurd (omega arith) }
+  pub front_or : Front p t (unwrap_or (position q t) (length t))
+  front_or = go (position q t) refl
+    where
+      go : (o : Option ℕ) → position q t ≡ o → Front p t (unwrap_or o (length t))
+      go (Some n) e = front_some n e
+      go None e = front_none e
 
 -- a front behind its first byte
 

@@ -3,16 +3,29 @@ use Prim.Native.Nat.{ℕ, zero, suc, ◌^◌, ◌<◌}
 use mathlib.Core.Path.{◌≡◌, refl, sym, ap, ◌∙◌}
 use mathlib.Core.List.{List, [], ◌∷◌}
 use native.Mathlib.Omega.{arith}
+use Rattle.std.specs.Prelude.{Bool, true, false, Option, Some, None, MatchOption, is_some, eqb}
+use Rattle.std.specs.Cmp.Lexicographic.{pointwise}
+use Rattle.std.proofs.lemmas.Bool.Decides.{Decides-eqb}
+use Rattle.std.proofs.lemmas.Slice.Eq.{slice_eq-Decides}
 use lib.ListN.{length, get_or}
 use Rattle.ground.specs.Texts.{ascii}
-use Rattle.ground.proofs.Cases.{digit}
+use Rattle.ground.proofs.Cases.{digit, clash}
 use Rattle.print.specs.Texts.{decimal, sign, pattern}
 use Rattle.print.proofs.Digits.{pattern-length, pattern-sign}
 use Rattle.pla.specs.Sayings.{Saying, Says, no_word, dot_i, dot_o, dot_p, drawn, dot_e}
 use Rattle.pla_lines.specs.declared.Heard.TheVariants.{Blank, Inputs, Output, Count, Cube, End, Unreadable}
-use Rattle.pla_lines.specs.declared.sayings.Number.TheVariants.{Is, NoNumber}
-use Rattle.pla_lines.specs.declared.sayings.Cube.TheVariants.{Of, NoCube}
 use Rattle.pla_lines.specs.Parts.{Numbered, Boxed, Hears, said, unsaid}
+
+-- what a test of two words says
+pub same : {a b w : List ℕ} {r : Bool} → b ≡ w → r ≡ pointwise eqb a b → r ≡ true → a ≡ w
+same s e y = (slice_eq-Decides Decides-eqb _ _ _ e).0 y ∙ s
+
+pub other : {a b w : List ℕ} {r : Bool} → b ≡ w → r ≡ pointwise eqb a b → r ≡ false → a ≡ w → ⊥
+other s e n q = clash ((slice_eq-Decides Decides-eqb _ _ _ e).1 (q ∙ sym s)) n
+
+pub nothing : {X : Type 0} (o : Option X) {P : Type 0} (Q : X → Type 0) → MatchOption o P Q → is_some o ≡ false → P
+nothing None Q m e = m
+nothing (Some x) Q m e = clash refl e
 
 -- what stands behind a word, told otherwise
 pub behind_word : {ws us vs : List (List ℕ)} {a : List ℕ} → ws ≡ a ∷ us → us ≡ vs → ws ≡ a ∷ vs
@@ -58,16 +71,16 @@ keyword p q = cc
 -- two words
 
 module _ (m : ℕ) {a b : List ℕ} where
-  pub hears_inputs : {v : ℕ} → a ≡ ascii ".i" → Numbered b (Is v) → Hears m (a ∷ b ∷ []) (Inputs v)
+  pub hears_inputs : {v : ℕ} → a ≡ ascii ".i" → Numbered b (Some v) → Hears m (a ∷ b ∷ []) (Inputs v)
   hears_inputs e (Numbered.is n t v) = said (dot_i {n = n} (cc)) (ap Inputs v)
 
-  pub hears_count : {v : ℕ} → a ≡ ascii ".p" → Numbered b (Is v) → Hears m (a ∷ b ∷ []) (Count v)
+  pub hears_count : {v : ℕ} → a ≡ ascii ".p" → Numbered b (Some v) → Hears m (a ∷ b ∷ []) (Count v)
   hears_count e (Numbered.is n t v) = said (dot_p {n = n} (cc)) (ap Count v)
 
   pub hears_output : a ≡ ascii ".o" → b ≡ ascii "1" → Hears m (a ∷ b ∷ []) Output
   hears_output e f = said (dot_o (cc)) refl
 
-  pub hears_cube : {c : ℕ} → Boxed m a (Of c) → b ≡ ascii "1" → Hears m (a ∷ b ∷ []) (Cube c)
+  pub hears_cube : {c : ℕ} → Boxed m a (Some c) → b ≡ ascii "1" → Hears m (a ∷ b ∷ []) (Cube c)
   hears_cube (Boxed.is l e) f = said (drawn l (cc)) refl
 
 -- and two words that say nothing
@@ -84,16 +97,16 @@ module _ (m : ℕ) {a b : List ℕ} (end : a ≡ ascii ".e" → ⊥) where
       says x (drawn {b = c} l e) = d (cc) c l (cc)
       says x (dot_e e) = end (cc)
 
-  pub no_inputs : a ≡ ascii ".i" → Numbered b NoNumber → Hears m (a ∷ b ∷ []) Unreadable
+  pub no_inputs : a ≡ ascii ".i" → Numbered b None → Hears m (a ∷ b ∷ []) Unreadable
   no_inputs e (Numbered.none q) =
       hears_nothing (λ f. q) (λ f. absurd (omega (arith, keyword e f))) (λ g f. omega (arith, keyword e f)) (λ g c l f. no_cube m c _ (sym e ∙ f))
 
-  pub no_count : a ≡ ascii ".p" → Numbered b NoNumber → Hears m (a ∷ b ∷ []) Unreadable
+  pub no_count : a ≡ ascii ".p" → Numbered b None → Hears m (a ∷ b ∷ []) Unreadable
   no_count e (Numbered.none q) =
       hears_nothing (λ f. absurd (omega (arith, keyword e f))) (λ f. q) (λ g f. omega (arith, keyword e f)) (λ g c l f. no_cube m c _ (sym e ∙ f))
 
   pub no_one : (a ≡ ascii ".i" → ⊥) → (a ≡ ascii ".p" → ⊥) → (b ≡ ascii "1" → ⊥) → Hears m (a ∷ b ∷ []) Unreadable
   no_one i p q = hears_nothing (λ f. absurd (i f)) (λ f. absurd (p f)) (λ g. absurd (q g)) (λ g. absurd (q g))
 
-  pub no_box : (a ≡ ascii ".i" → ⊥) → (a ≡ ascii ".p" → ⊥) → (a ≡ ascii ".o" → ⊥) → Boxed m a NoCube → Hears m (a ∷ b ∷ []) Unreadable
+  pub no_box : (a ≡ ascii ".i" → ⊥) → (a ≡ ascii ".p" → ⊥) → (a ≡ ascii ".o" → ⊥) → Boxed m a None → Hears m (a ∷ b ∷ []) Unreadable
   no_box i p o (Boxed.none q) = hears_nothing (λ f. absurd (i f)) (λ f. absurd (p f)) (λ g. o) (λ g. q)

@@ -4,12 +4,12 @@ use mathlib.Core.Path.{◌≡◌, sym, ap, ◌∙◌, subst}
 use mathlib.Core.List.{List, [], ◌∷◌, ◌++◌}
 use native.Mathlib.Numerals.{add-one}
 use native.Mathlib.Omega.{arith}
+use Rattle.std.specs.Prelude.{Some, None}
 use lib.ListN.{length, get_or, take, drop, length-drop, take-append-drop}
 use lib.Seq.{take-suc, take_all}
 use Rattle.print.specs.Texts.{decimal}
 use Rattle.print.proofs.Digits.{decimal_small, decimal_grows}
 use Rattle.clock.proofs.ReadsBack.{decimal_numeral, decimal_digit, decimal_plain}
-use Rattle.pla_lines.specs.declared.sayings.Number.TheVariants.{Is, NoNumber}
 use Rattle.pla_lines.specs.Parts.{capped, Numbered, is, none}
 
 -- the first i bytes are the digits of a number that is told as n
@@ -31,19 +31,19 @@ module _ (w : List ℕ) where
       digits (k * 10 + d) (omega arith)
       (more i h low ∙ ap (λ (x : List ℕ). x ++ (48 + d) ∷ []) e ∙ sym (decimal_grows k d (omega (arith, plain j)) (omega arith))) (omega arith)
 
-  pub number_read : (i n : ℕ) → Told w i n → length w ≤ i → 0 < length w → Numbered w (Is n)
+  pub number_read : (i n : ℕ) → Told w i n → length w ≤ i → 0 < length w → Numbered w (Some n)
   number_read i n (nothing e z) l h = absurd (omega arith)
   number_read i n (digits k j e z) l h = is k (sym (take_all i w l) ∙ e) z
 
   -- no byte, a byte that is no digit, and a byte behind `0`
 
-  pub number_empty : length w ≡ 0 → Numbered w NoNumber
+  pub number_empty : length w ≡ 0 → Numbered w None
   number_empty h = none (λ n e. omega (arith, (decimal_numeral n).some, ap length e))
 
-  pub number_other : (i : ℕ) → i < length w → ((48 ≤ get_or w i 0) × (get_or w i 0 ≤ 57) → ⊥) → Numbered w NoNumber
+  pub number_other : (i : ℕ) → i < length w → ((48 ≤ get_or w i 0) × (get_or w i 0 ≤ 57) → ⊥) → Numbered w None
   number_other i h other = none (λ n e. other (subst (λ (x : List ℕ). (48 ≤ get_or x i 0) × (get_or x i 0 ≤ 57)) (sym e) (decimal_digit n i (omega (arith, ap length e)))))
 
-  pub number_zero : (i n : ℕ) → Told w i n → n ≡ 0 → 0 < i → i < length w → Numbered w NoNumber
+  pub number_zero : (i n : ℕ) → Told w i n → n ≡ 0 → 0 < i → i < length w → Numbered w None
   number_zero i n (nothing e z) q h l = absurd (omega arith)
   number_zero i n (digits k j e z) q h l =
       let zero : k ≡ 0 = omega arith in

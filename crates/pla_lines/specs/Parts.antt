@@ -1,16 +1,11 @@
 -- What the functions of the line reader tell each other.
-use Rattle.std.specs.Prelude.{ℕ, ◌+◌, ◌^◌, ◌≤◌, ◌<◌, min, ◌≡◌, Bool, true, false, not, ◌||◌, List, [], ◌∷◌, length, get_or, take, drop}
+use Rattle.std.specs.Prelude.{ℕ, ◌^◌, ◌≤◌, ◌<◌, min, ◌≡◌, Bool, true, false, not, ◌||◌, List, length, get_or, Option, Some, None}
 use Rattle.print.specs.Texts.{decimal, sign, pattern}
 use Rattle.pla.specs.Texts.{is_gap}
 use Rattle.pla.specs.Sayings.{Saying, blank, inputs, output, count, cube, end, Says}
-use Rattle.pla_lines.specs.Lines.{words_in, is_stop}
+use Rattle.pla_lines.specs.Lines.{is_stop}
 use Rattle.pla_lines.specs.declared.Heard.{Heard}
 use Rattle.pla_lines.specs.declared.Heard.TheVariants.{Blank, Inputs, Output, Count, Cube, End, Unreadable}
-use Rattle.pla_lines.specs.declared.words.Word.{Word}
-use Rattle.pla_lines.specs.declared.sayings.Number.{Number}
-use Rattle.pla_lines.specs.declared.sayings.Number.TheVariants.{Is, NoNumber}
-use Rattle.pla_lines.specs.declared.sayings.Cube.{Cube as CubeRead}
-use Rattle.pla_lines.specs.declared.sayings.Cube.TheVariants.{Of, NoCube}
 
 -- the test holds of each of the first n bytes, and not of the next
 pub record Front (p : ℕ → Bool) (t : List ℕ) (n : ℕ) : Type 0 where
@@ -18,36 +13,24 @@ pub record Front (p : ℕ → Bool) (t : List ℕ) (n : ℕ) : Type 0 where
   pub each : (i : ℕ) → i < n → p (get_or t i 0) ≡ true
   pub last : n < length t → p (get_or t n 0) ≡ false
 
-abbrev pub GapSize : List ℕ → ℕ → Type 0
-GapSize t n = Front is_gap t n
-
 abbrev pub in_word : ℕ → Bool
 in_word b = not (is_gap b || is_stop b)
-
-abbrev pub WordSize : List ℕ → ℕ → Type 0
-WordSize t n = Front in_word t n
-
--- the word stands behind its gap in the first line, and the line's other words behind it; or the line has no word
-pub data NextWord (t : List ℕ) (w : Word) : Type 0 where
-  none : w.size ≡ 0 → words_in t ≡ [] → NextWord t w
-  some : 0 < w.size → w.gap + w.size ≤ length t → words_in t ≡ take w.size (drop w.gap t) ∷ words_in (drop w.size (drop w.gap t))
-      → NextWord t w
 
 -- a number of 64 bits, and the largest for those that are above
 abbrev pub capped : ℕ → ℕ
 capped n = min n 18446744073709551615
 
-pub data Numbered (w : List ℕ) : Number → Type 0 where
-  is : (n : ℕ) {v : ℕ} → w ≡ decimal n → v ≡ capped n → Numbered w (Is v)
-  none : ((n : ℕ) → w ≡ decimal n → ⊥) → Numbered w NoNumber
+pub data Numbered (w : List ℕ) : Option ℕ → Type 0 where
+  is : (n : ℕ) {v : ℕ} → w ≡ decimal n → v ≡ capped n → Numbered w (Some v)
+  none : ((n : ℕ) → w ≡ decimal n → ⊥) → Numbered w None
 
-pub data Signed (c d : ℕ) : Type 0 where
-  is : d < 3 → c ≡ sign d → Signed c d
-  none : d ≡ 3 → ((e : ℕ) → e < 3 → c ≡ sign e → ⊥) → Signed c d
+pub data Signed (c : ℕ) : Option ℕ → Type 0 where
+  is : {d : ℕ} → d < 3 → c ≡ sign d → Signed c (Some d)
+  none : ((e : ℕ) → e < 3 → c ≡ sign e → ⊥) → Signed c None
 
-pub data Boxed (m : ℕ) (w : List ℕ) : CubeRead → Type 0 where
-  is : {b : ℕ} → b < 3 ^ m → w ≡ pattern m b → Boxed m w (Of b)
-  none : ((b : ℕ) → b < 3 ^ m → w ≡ pattern m b → ⊥) → Boxed m w NoCube
+pub data Boxed (m : ℕ) (w : List ℕ) : Option ℕ → Type 0 where
+  is : {b : ℕ} → b < 3 ^ m → w ≡ pattern m b → Boxed m w (Some b)
+  none : ((b : ℕ) → b < 3 ^ m → w ≡ pattern m b → ⊥) → Boxed m w None
 
 -- what is heard of a saying
 abbrev pub heard_as : Saying → Heard

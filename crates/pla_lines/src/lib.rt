@@ -1,16 +1,18 @@
 // The lines of a PLA text: what the line at the front of some bytes says, and how long it is.
 #![tactic(auto)]
 
-ghost use Rattle.std.specs.Prelude.{◌≡◌, ◌≤◌, length};
+ghost use Rattle.std.specs.Prelude.{◌≡◌, ◌≤◌, length, position, unwrap_or};
 ghost use Rattle.sheet.specs.Limits.{most_marks};
+ghost use Rattle.pla.specs.Texts.{is_newline};
 ghost use Rattle.pla_lines.specs.Lines.{first_line, words_in};
 ghost use Rattle.pla_lines.specs.Parts.{Hears};
+ghost use Rattle.pla_lines.specs.declared.Heard.TheVariants.{Unreadable};
 
 mod sayings;
 mod words;
 
-// What was heard. A number that does not fit in 64 bits is told as the largest that does.
-#[derive(Clone, Copy)]
+// What was heard; that a line says nothing is one of the answers. A number that does not fit in 64 bits is told as the largest that does.
+#[derive(Clone, Copy, Debug, PartialEq, Eq)]
 pub enum Heard {
     Blank,
     Inputs(u64),
@@ -21,18 +23,36 @@ pub enum Heard {
     Unreadable,
 }
 
+// Where the first newline stands.
+fn newline(text: &[u8]) -> Option<usize>
+    ensures { result ≡ position is_newline text.now }
+{
+    text.iter().position(|b| *b == b'\n')
+}
+
 // How many bytes the line has, its newline not among them.
 pub fn size(text: &[u8]) -> usize
     ensures { result ≡ length (first_line text.now) }
 {
-    let mut i: usize = 0;
-    while i < text.len() {
-        if text[i] == b'\n' {
-            return i;
-        }
-        i += 1;
+    newline(text).unwrap_or(text.len())
+}
+
+// What the line says, in a text of m inputs; None where it says nothing.
+fn said(text: &[u8], m: usize) -> Option<Heard>
+    requires { m ≤ most_marks }
+    ensures { Hears m (words_in text.now) (unwrap_or result Unreadable) }
+{
+    let Some((keyword, behind)) = words::next(text) else {
+        return Some(Heard::Blank);
+    };
+    if keyword == b".e".as_slice() {
+        return Some(Heard::End);
     }
-    i
+    let (argument, rest) = words::next(behind)?;
+    if words::next(rest).is_some() {
+        return None;
+    }
+    sayings::pair(keyword, argument, m)
 }
 
 // What the line says, in a text of m inputs.
@@ -40,28 +60,5 @@ pub fn read(text: &[u8], m: usize) -> Heard
     requires { m ≤ most_marks }
     ensures { Hears m (words_in text.now) result }
 {
-    let first = words::next(text);
-    let from = first.gap;
-    let size = first.size;
-    if size == 0 {
-        return Heard::Blank;
-    }
-    let begun = &text[from..];
-    let keyword = &begun[..size];
-    if ground::same(keyword, b".e") {
-        return Heard::End;
-    }
-    let behind = &begun[size..];
-    let second = words::next(behind);
-    let next = second.gap;
-    let length = second.size;
-    if length == 0 {
-        return Heard::Unreadable;
-    }
-    let argued = &behind[next..];
-    let third = words::next(&argued[length..]);
-    if third.size != 0 {
-        return Heard::Unreadable;
-    }
-    sayings::pair(keyword, &argued[..length], m)
+    said(text, m).unwrap_or(Heard::Unreadable)
 }

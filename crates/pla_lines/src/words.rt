@@ -1,15 +1,7 @@
 // The words of the line at the front of some bytes: spaces and tabs stand between them, and a newline or `#` ends them all.
-ghost use Rattle.std.specs.Prelude.{◌≡◌};
+ghost use Rattle.std.specs.Prelude.{◌≡◌, not, ◌||◌, [], ◌∷◌, position, MatchOption};
 ghost use Rattle.pla.specs.Texts.{is_gap};
-ghost use Rattle.pla_lines.specs.Lines.{is_stop};
-ghost use Rattle.pla_lines.specs.Parts.{GapSize, WordSize, NextWord};
-
-// A word: how many bytes stand before it, and how many it has; none where the line has no more words.
-#[derive(Clone, Copy)]
-pub struct Word {
-    pub gap: usize,
-    pub size: usize,
-}
+ghost use Rattle.pla_lines.specs.Lines.{is_stop, words_in};
 
 fn is_gap(b: u8) -> bool
     ensures { result ≡ is_gap b }
@@ -23,43 +15,29 @@ fn is_stop(b: u8) -> bool
     b == b'\n' || b == b'#'
 }
 
-// How many spaces and tabs stand in front.
-fn gap_size(text: &[u8]) -> usize
-    ensures { GapSize text.now result }
+// Where the first byte stands that is no gap.
+fn gap_end(text: &[u8]) -> Option<usize>
+    ensures { result ≡ position (λ b. not (is_gap b)) text.now }
 {
-    let mut i: usize = 0;
-    while i < text.len() {
-        if !is_gap(text[i]) {
-            return i;
-        }
-        i += 1;
-    }
-    i
+    text.iter().position(|b| !is_gap(*b))
 }
 
-// How many bytes stand in front that are of one word.
-fn word_size(text: &[u8]) -> usize
-    ensures { WordSize text.now result }
+// Where the first byte stands that is of no word.
+fn word_end(text: &[u8]) -> Option<usize>
+    ensures { result ≡ position (λ b. is_gap b || is_stop b) text.now }
 {
-    let mut i: usize = 0;
-    while i < text.len() {
-        let b = text[i];
-        if is_gap(b) {
-            return i;
-        }
-        if is_stop(b) {
-            return i;
-        }
-        i += 1;
-    }
-    i
+    text.iter().position(|b| is_gap(*b) || is_stop(*b))
 }
 
-// The first word of the line.
-pub fn next(text: &[u8]) -> Word
-    ensures { NextWord text.now result }
+// The first word of the line, and what stands behind it; None where the line has no more words.
+pub fn next(text: &[u8]) -> Option<(&[u8], &[u8])>
+    ensures { MatchOption result (words_in text.now ≡ []) (λ w. words_in text.now ≡ w.0.now ∷ words_in w.1.now) }
 {
-    let gap = gap_size(text);
-    let size = word_size(&text[gap..]);
-    Word { gap, size }
+    let gap = gap_end(text)?;
+    let begun = &text[gap..];
+    let size = word_end(begun).unwrap_or(begun.len());
+    if size == 0 {
+        return None;
+    }
+    Some(begun.split_at(size))
 }

@@ -42,5 +42,5 @@ pub fn read(text: &[u8]) -> Read
     ensures { ReadsPla most_marks entries text.now result }
 {
     let sets = sets::sets();
-    read_by(text, &sets)
+    read_by(text, sets)
 }

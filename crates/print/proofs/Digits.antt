@@ -1,13 +1,14 @@
 -- The recursion of `decimal`, freed of its bound, and how long the texts are.
 use Prim.Native.Nat.{ℕ, zero, suc, ◌+◌, ◌*◌, ◌/◌, ◌%◌, ◌^◌, ◌≤◌, ◌<◌}
 use mathlib.Core.Path.{◌≡◌, refl, sym, ap, ◌∙◌}
-use mathlib.Core.List.{List, [], ◌∷◌, ◌++◌}
+use mathlib.Core.List.{List, [], ◌∷◌, ◌++◌, append_assoc}
 use native.Mathlib.Nat.{pow-suc, pow-zero}
 use native.Mathlib.Omega.{arith}
 use lib.Dec.{ltb}
 use lib.ListN.{length, get_or, length-append, get_or-append}
 use lib.Seq.{get_or_at}
 use borrow.Author.Tests.{ltb-true, ltb-false, lt-ltb, le-ltb}
+use Rattle.ground.specs.Figures.{figures}
 use Rattle.ground.proofs.Cases.{if, below_or}
 use Rattle.print.specs.Texts.{decimal_in, decimal, clock, sign, pattern}
 
@@ -58,6 +59,15 @@ decimal-length (suc zero) n h l = omega (arith, pow-suc 10 0, pow-zero 10, ap le
 decimal-length (suc (suc k)) n h l =
     if (ltb n 10) (λ e. omega (arith, ap length (decimal_small n (ltb-true n 10 e))))
     (λ e. omega (arith, decimal_more n (ltb-false n 10 e), decimal-length (suc k) (n / 10) (omega arith) (omega (arith, pow-suc 10 (suc k)))))
+
+-- a number below 100 in two digits
+pub two_digits : (n : ℕ) → n < 100 → figures 10 2 n ≡ (48 + n / 10) ∷ (48 + n % 10) ∷ []
+unfolding figures
+two_digits n h = let e : n / 10 % 10 ≡ n / 10 = omega arith in ap (λ (a : ℕ). (48 + a) ∷ (48 + n % 10) ∷ []) e
+
+pub clock_parts : (s : ℕ) → decimal (s / 60) ++ 58 ∷ [] ++ figures 10 2 (s % 60) ≡ clock s
+unfolding clock
+clock_parts s = append_assoc (decimal (s / 60)) (58 ∷ []) (figures 10 2 (s % 60)) ∙ ap (λ (l : List ℕ). decimal (s / 60) ++ 58 ∷ l) (two_digits (s % 60) (omega arith))
 
 pub clock-length : (s : ℕ) → length (clock s) ≡ length (decimal (s / 60)) + 3
 unfolding clock

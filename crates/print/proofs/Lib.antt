@@ -1,3 +1,5 @@
 pub mod Digits
 pub mod Writing
 pub mod Patterns
+pub mod Decimals
+pub mod Pages

@@ -23,6 +23,9 @@ unfolding pattern
 pattern_lower zero b h = absurd (h refl)
 pattern_lower (suc m) b h = simp unary_clauses
 
+pub pattern_lowest : (m b : ℕ) {d : ℕ} → d ≡ sign (b % 3) → (m ≡ 0 → ⊥) → pattern (m - 1) (b / 3) ++ d ∷ [] ≡ pattern m b
+pattern_lowest m b e h = ap (λ (x : ℕ). pattern (m - 1) (b / 3) ++ x ∷ []) e ∙ sym (pattern_lower m b h)
+
 pub pattern_last : (m b : ℕ) {d : ℕ} {out o₁ o₂ : List ℕ} {at r₁ r₂ : ℕ} → (m ≡ 0 → ⊥) → d ≡ sign (b % 3) → Wrote out at (pattern (m - 1) (b / 3)) r₁ o₁
     → Wrote o₁ r₁ (d ∷ []) r₂ o₂ → at + m ≤ length out → Wrote out at (pattern m b) r₂ o₂
 pattern_last m b h e p q k =

@@ -1,9 +1,13 @@
-// Numbers, running times and patterns, written into a lent area: each call lays its text at a place and answers the next place.
+// Numbers, running times and patterns, written into a lent area by `Page`. The functions here lay a text at a place and answer the next place.
 #![tactic(auto)]
+
+mod page;
 
 ghost use Rattle.std.specs.Prelude.{◌≡◌, ◌+◌, ◌≤◌, ◌<◌, length};
 ghost use Rattle.print.specs.Texts.{decimal, clock, sign, pattern};
 ghost use Rattle.ground.specs.Areas.{Wrote};
+
+pub use page::Page;
 
 // The byte of a decimal digit.
 fn digit(d: u64) -> u8

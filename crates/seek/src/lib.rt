@@ -4,121 +4,113 @@
 ghost use Rattle.std.specs.Prelude.{◌≡◌, ◌+◌, ◌*◌, ◌-◌, ◌^◌, ◌≤◌, ◌<◌, length};
 ghost use Rattle.boxes.specs.Boxes.{through};
 ghost use Rattle.lists.specs.Lists.{lowest_of};
-ghost use Rattle.sets.specs.Sets.{set_marks, has, Singles};
+ghost use Rattle.sets.specs.Sets.{set_marks, has, Sets, Singles};
 ghost use Rattle.seek.specs.Answer.{Askable, Sought};
 ghost use Rattle.costs.specs.Costs.{Certified};
-ghost use Rattle.seek.specs.Steps.{Reached, Stage, Node};
+ghost use Rattle.seek.specs.Steps.{Reached, Stage, IsOpen};
 
-// The box through the combination c with the free marks t.
-fn box_on(m: usize, singles: &[usize; 32], c: usize, t: usize) -> usize
-    requires { (m ≤ set_marks) × Singles m singles.now × (c < 2 ^ m) × (t < 2 ^ m) }
-    ensures { (result ≡ through m c t) × (result < 3 ^ m) × (result < 3 ^ set_marks) }
-{
-    singles[c | t] + singles[t]
+use costs::Certificate;
+
+// What a search goes by: it stays the same at every node.
+#[derive(Clone, Copy)]
+struct Search<'a> {
+    marks: usize,
+    sets: &'a [u32; 243],
+    singles: &'a [usize; 32],
+    known: &'a Certificate,
+    ghost few: { marks ≤ set_marks },
+    ghost of_boxes: { Sets marks sets.now },
+    ghost of_singles: { Singles marks singles.now },
 }
 
-// Lays `left` boxes on all of `need`, inside `room`: on the lowest combination that is not covered, and so on.
-#[cycle(cover_try_boxes)]
-fn cover(
-    m: usize,
-    sets: &[u32; 243],
-    singles: &[usize; 32],
-    costs: &[u64; 243],
+// What is still to be covered, and inside what; how many boxes are left for it, and what they may cost.
+#[derive(Clone, Copy)]
+struct Node {
     need: u32,
     room: u32,
     left: usize,
     spare: u64,
-    area: &mut [u8],
-) -> bool
-    requires node { Node m sets.now singles.now costs.now need room left spare }
-    requires left_in_bounds { left ≤ length area.old }
-    ensures { Reached m (has need) (has room) left result area.new }
-{
-    if need == 0 {
-        return true;
-    }
-    if left == 0 {
-        return false;
-    }
-    let c = u32::trailing_zeros(need) as usize;
-    try_boxes(
-        m,
-        sets,
-        singles,
-        costs,
-        c,
-        need,
-        room,
-        left - 1,
-        spare,
-        area,
-    )
 }
 
-// Lays a box on the combination c, and then `left` more: the boxes through c are tried in rising number.
-#[cycle(cover_try_boxes)]
-fn try_boxes(
-    m: usize,
-    sets: &[u32; 243],
-    singles: &[usize; 32],
-    costs: &[u64; 243],
-    c: usize,
-    need: u32,
-    room: u32,
-    left: usize,
-    spare: u64,
-    area: &mut [u8],
-) -> bool
-    requires node { Node m sets.now singles.now costs.now need room (left + 1) spare }
-    requires left_in_bounds { (left < length area.old) × (lowest_of m (has need) ≡ c) × (c < 2 ^ m) }
-    ensures { Reached m (has need) (has room) (left + 1) result area.new }
-{
-    let n = boxes::power2(m);
-    let mut t: usize = 0;
-    while t < n {
-        let b = box_on(m, singles, c, t);
-        let s = sets[b];
-        if s & room == s {
-            let k = costs[b];
-            if k <= spare {
-                area[0] = b as u8;
-                let due = need & !s;
-                let free = room & !s;
-                let rest = spare - k;
-                let behind = &mut area[1..];
-                if cover(m, sets, singles, costs, due, free, left, rest, behind) {
+impl Search<'_> {
+    // The box through the combination c with such free marks.
+    fn box_on(&self, c: usize, free: usize) -> usize
+        requires c_in_bounds { c < 2 ^ self.now.marks }
+        requires free_in_bounds { free < 2 ^ self.now.marks }
+        ensures is_through { result ≡ through self.now.marks c free }
+        ensures within { (result < 3 ^ self.now.marks) × (result < 3 ^ set_marks) }
+    {
+        self.singles[c | free] + self.singles[free]
+    }
+
+    // IsOpen as many boxes as are left on all that is needed, inside the room: on the lowest combination that is not covered, and so on.
+    #[cycle(cover_try_boxes)]
+    fn cover(&self, node: Node, area: &mut [u8]) -> bool
+        requires node { IsOpen self.now.marks self.now.known.now.costs node }
+        requires left_in_bounds { node.left ≤ length area.old }
+        ensures { Reached self.now.marks (has node.need) (has node.room) node.left result area.new }
+    {
+        if node.need == 0 {
+            return true;
+        }
+        if node.left == 0 {
+            return false;
+        }
+        let c = node.need.trailing_zeros() as usize;
+        self.try_boxes(node, c, area)
+    }
+
+    // IsOpen a box on the combination c, and then the others: the boxes through c are tried in rising number.
+    #[cycle(cover_try_boxes)]
+    fn try_boxes(&self, node: Node, c: usize, area: &mut [u8]) -> bool
+        requires node { IsOpen self.now.marks self.now.known.now.costs node }
+        requires some_left { 0 < node.left }
+        requires left_in_bounds { node.left ≤ length area.old }
+        requires lowest { (lowest_of self.now.marks (has node.need) ≡ c) × (c < 2 ^ self.now.marks) }
+        ensures { Reached self.now.marks (has node.need) (has node.room) node.left result area.new }
+    {
+        let Some((first, behind)) = area.split_first_mut() else {
+            unreachable!();
+        };
+        let n = boxes::power2(self.marks);
+        for free in 0..n {
+            let b = self.box_on(c, free);
+            let set = self.sets[b];
+            if set & node.room == set && self.known.costs[b] <= node.spare {
+                *first = b as u8;
+                let below = Node {
+                    need: node.need & !set,
+                    room: node.room & !set,
+                    left: node.left - 1,
+                    spare: node.spare - self.known.costs[b],
+                };
+                if self.cover(below, behind) {
                     return true;
                 }
             }
         }
-        t += 1;
+        false
     }
-    false
-}
 
-// Lays k boxes, where no list has fewer.
-fn of_size(
-    m: usize,
-    sets: &[u32; 243],
-    singles: &[usize; 32],
-    costs: &[u64; 243],
-    need: u32,
-    room: u32,
-    k: usize,
-    plus: u64,
-    minus: u64,
-    area: &mut [u8],
-) -> bool
-    requires stage { Stage m sets.now singles.now need room k }
-    requires certified { Certified m costs.now (has need) (has room) plus minus }
-    requires k_bound { (k ≤ 2 ^ set_marks) × (k ≤ length area.old) }
-    ensures { Reached m (has need) (has room) k result area.new }
-{
-    let all = k as u64 * costs::WHOLE + minus;
-    if all < plus {
-        return false;
+    // IsOpen k boxes, where no list has fewer.
+    fn of_size(&self, need: u32, room: u32, k: usize, area: &mut [u8]) -> bool
+        requires stage { Stage self.now.marks need room k }
+        requires certified { Certified self.now.marks self.now.known.now.costs (has need) (has room) self.now.known.now.plus self.now.known.now.minus }
+        requires k_bound { (k ≤ 2 ^ set_marks) × (k ≤ length area.old) }
+        ensures { Reached self.now.marks (has need) (has room) k result area.new }
+    {
+        let all = k as u64 * costs::WHOLE + self.known.minus;
+        if all < self.known.plus {
+            return false;
+        }
+        let root = Node {
+            need,
+            room,
+            left: k,
+            spare: all - self.known.plus,
+        };
+        self.cover(root, area)
     }
-    cover(m, sets, singles, costs, need, room, k, all - plus, area)
 }
 
 // The first shortest list that covers `need` inside `room`, at the front of the area: how many boxes it has.
@@ -128,13 +120,17 @@ pub fn shortest(m: usize, need: u32, room: u32, area: &mut [u8]) -> usize
 {
     let sets = sets::sets();
     let singles = sets::singles();
-    let known = costs::weighed(m, &sets, &singles, need, room);
-    let costs = known.costs;
-    let plus = known.plus;
-    let minus = known.minus;
-    let mut k: usize = 0;
-    while !of_size(m, &sets, &singles, &costs, need, room, k, plus, minus, area) {
-        k += 1;
+    let known = costs::weighed(m, sets, &singles, need, room);
+    let search = Search {
+        marks: m,
+        sets,
+        singles: &singles,
+        known: &known,
+    };
+    for k in 0..=lists::most_lines(m) {
+        if search.of_size(need, room, k, area) {
+            return k;
+        }
     }
-    k
+    unreachable!()
 }

@@ -3,11 +3,11 @@
 
 ghost use Rattle.sets.specs.Sets.{AllSets, AllSingles, Outs};
 
-// The set of each box, by its number. A box below 3^m has the same combinations over any number of marks from m on.
-pub fn sets() -> [u32; 243]
-    ensures { AllSets result }
+// The set of each box, by its number, lent for good. A box below 3^m has the same combinations over any number of marks from m on.
+pub fn sets() -> &'static [u32; 243]
+    ensures { AllSets result.now }
 {
-    SETS
+    &SETS
 }
 
 // The box of each single combination.
@@ -15,8 +15,8 @@ pub fn singles() -> [usize; 32]
     ensures { AllSingles result }
 {
     let mut singles = [0usize; 32];
-    for c in 0..32 {
-        singles[c] = boxes::single(5, c);
+    for (c, single) in singles.iter_mut().enumerate() {
+        *single = boxes::single(5, c);
     }
     singles
 }
@@ -26,14 +26,14 @@ pub fn outs_of(class: u32) -> [u32; 32]
     ensures { Outs class result }
 {
     let mut outs = [0u32; 32];
-    for c in 0..32 {
-        outs[c] = 1 - (class >> c) % 2;
+    for (c, out) in outs.iter_mut().enumerate() {
+        *out = 1 - (class >> c) % 2;
     }
     outs
 }
 
 // The combinations of each box over five marks, a bit for each.
-const SETS: [u32; 243] = [
+static SETS: [u32; 243] = [
     1, 2, 3, 4, 8, 12, 5, 10, 15, 16, 32, 48, 64, 128, 192, 80, 160, 240, 17, 34, 51, 68, 136, 204,
     85, 170, 255, 256, 512, 768, 1024, 2048, 3072, 1280, 2560, 3840, 4096, 8192, 12288, 16384,
     32768, 49152, 20480, 40960, 61440, 4352, 8704, 13056, 17408, 34816, 52224, 21760, 43520, 65280,

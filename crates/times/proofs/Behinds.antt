@@ -9,10 +9,9 @@ use Rattle.times.specs.declared.Form.{Form}
 use Rattle.times.specs.declared.Form.TheVariants.{Minutes, Hours}
 use Rattle.times.specs.declared.Time.{Time}
 use Rattle.times.specs.declared.Time.TheVariants.{Value, Fault}
-use Rattle.times.specs.declared.Lead.TheVariants.{Front, Stop}
 use Rattle.times.specs.Texts.{Sixty}
 use Rattle.times.specs.Places.{ReadsAs, value}
-use Rattle.times.specs.Parts.{Ended, Two, After, ends, goes_on, UpTo, Paired, two, no_tens, no_ones, placed_on}
+use Rattle.times.specs.Parts.{Front, Stop, Ended, Two, After, ends, goes_on, UpTo, Paired, two, no_tens, no_ones, placed_on}
 use Rattle.times.proofs.Places.{Open, handed, ends as Ends-there, stops}
 
 -- two bytes that write a number, and the number that they write

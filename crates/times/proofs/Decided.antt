@@ -9,11 +9,9 @@ use Rattle.times.specs.declared.Form.{Form}
 use Rattle.times.specs.declared.Form.TheVariants.{Minutes, Hours}
 use Rattle.times.specs.declared.Time.{Time}
 use Rattle.times.specs.declared.Time.TheVariants.{Value, Fault}
-use Rattle.times.specs.declared.Lead.{Lead}
-use Rattle.times.specs.declared.Lead.TheVariants.{Front, Stop}
 use Rattle.times.specs.Texts.{Readable}
 use Rattle.times.specs.Places.{ReadsAs}
-use Rattle.times.specs.Parts.{Ended, Two, After, ByParts, Follows, Led, Paired, two, no_tens, no_ones, placed_on}
+use Rattle.times.specs.Parts.{Lead, Front, Stop, Ended, Two, After, ByParts, Follows, Led, Paired, two, no_tens, no_ones, placed_on}
 use Rattle.times.proofs.Places.{Open}
 use Rattle.times.proofs.Behinds.{paired_on, unpaired, ended_some, ended_end, ended_more, after_some, after_end, after_more, after_colon}
 use Rattle.times.proofs.Fronts.{SoFar, far_none, far_step, stop_at, colon_at, end_at, led_stop, led_on}

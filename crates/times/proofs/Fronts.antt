@@ -13,10 +13,9 @@ use Rattle.times.specs.declared.Form.{Form}
 use Rattle.times.specs.declared.Form.TheVariants.{Minutes}
 use Rattle.times.specs.declared.Time.{Time}
 use Rattle.times.specs.declared.Time.TheVariants.{Fault}
-use Rattle.times.specs.declared.Lead.TheVariants.{Front, Stop}
 use Rattle.times.specs.Texts.{Digit, Digits, digits_value, Numeral}
 use Rattle.times.specs.Places.{ReadsAs}
-use Rattle.times.specs.Parts.{Two, After, ByParts, Follows, Led, colon, stop, placed_on}
+use Rattle.times.specs.Parts.{Front, Stop, Two, After, ByParts, Follows, Led, colon, stop, placed_on}
 use Rattle.times.proofs.Places.{Open, ends, stops, handed}
 use Rattle.times.proofs.Behinds.{noughts}
 

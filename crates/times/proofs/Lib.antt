@@ -5,3 +5,4 @@ pub mod Settled
 pub mod Words
 pub mod Decided
 pub mod Bytes
+pub mod Lefts

@@ -5,7 +5,7 @@ use mathlib.Core.List.{List, [], ◌∷◌, ◌++◌, append-nil}
 use native.Mathlib.Omega.{arith}
 use Rattle.ground.specs.Texts.{ascii}
 use Rattle.times.specs.declared.Form.{Form}
-use Rattle.times.specs.declared.Form.TheVariants.{Minutes, Hours, NoTime}
+use Rattle.times.specs.declared.Form.TheVariants.{Minutes, Hours}
 use Rattle.times.specs.declared.Time.{Time}
 use Rattle.times.specs.Texts.{Numeral, Sixty, InMinutes, InHours, Readable, minutes, hours}
 use Rattle.times.specs.Places.{ReadsAs}
@@ -72,7 +72,6 @@ hours_parts {t} {v} r =
 pub by_parts : (t : List ℕ) (v : ℕ) (f : Form) → Readable t v f → ByParts t v f
 by_parts t v Minutes (minutes r) = minutes_parts r
 by_parts t v Hours (hours r) = hours_parts r
-by_parts t v NoTime x' = elim x' [ ]
 
 -- and as it is written
 

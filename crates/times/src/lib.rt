@@ -1,33 +1,44 @@
 // Running times: `M:SS` in minutes, or `H:MM:SS` in hours. What is read is handed on to the part of the text behind it, each part with its own set
-// of readable texts and with the same promise: the value and its form, or the place of the fault.
+// of readable texts and with the same promise: the value and its form, or the part left unread, at whose front the fault lies.
 #![tactic(auto)]
 
-ghost use Rattle.std.specs.Prelude.{◌≡◌, ◌+◌, ◌-◌, ◌*◌, ◌^◌, ◌≤◌, ◌<◌};
-ghost use Rattle.ground.specs.Decides.{Decides};
+ghost use Rattle.std.specs.Prelude.{◌≡◌, ◌+◌, ◌-◌, ◌*◌, ◌≤◌, ◌∷◌, IfOk, IfErr, IfSome, IfNone};
 ghost use Rattle.times.specs.Texts.{Readable};
 ghost use Rattle.times.specs.Places.{ReadsAs};
 ghost use Rattle.times.specs.Answers.{form_number, Answered};
-ghost use Rattle.times.specs.Parts.{UpTo, Follows, Led, Paired, Ended, After, Two, place_of, placed_on};
+ghost use Rattle.times.specs.Parts.{HandsOn, Reads, NoDigit, Follows, Led, Paired, Ended, After, Two, ByParts, place_of};
 ghost use Rattle.times.specs.declared.Form.TheVariants.{Hours};
 
-// The form in which a running time is written; NoTime where there is none.
-#[derive(Clone, Copy)]
+// The form in which a running time is written.
+#[derive(Clone, Copy, Debug, PartialEq, Eq)]
 pub enum Form {
-    NoTime,
     Minutes,
     Hours,
 }
 
 // The seconds and their form, or the place: the length of the longest beginning that is also the beginning of some readable text.
-#[derive(Clone, Copy)]
+// It stays an enum of its own, since `ReadsAs` and the theorems over it (`read_settled`, `time_decided`) speak of these two cases.
+#[derive(Clone, Copy, Debug, PartialEq, Eq)]
 pub enum Time {
     Value(u64, Form),
     Fault(usize),
 }
 
-// The reply to a text, for C too: 0 with the value and the number of its form, or 10 with the place.
+impl Time {
+    // The place of a fault, 0 for a value.
+    fn place(self) -> usize
+        ensures { result ≡ place_of self }
+    {
+        match self {
+            Time::Value(_, _) => 0,
+            Time::Fault(p) => p,
+        }
+    }
+}
+
+// The reply to a text, for C too: 0 with the value and the number of its form, or 10 with the place. Four numbers, as `vault_read_time` hands them to C.
 #[repr(C)]
-#[derive(Clone, Copy)]
+#[derive(Clone, Copy, Debug, PartialEq, Eq)]
 pub struct Reading {
     pub answer: u64,
     pub place: u64,
@@ -35,184 +46,123 @@ pub struct Reading {
     pub form: u64,
 }
 
-// The number at the front of a text and where the part behind it begins, or the place.
-#[derive(Clone, Copy)]
-pub enum Lead {
-    Front(u64, usize),
-    Stop(usize),
-}
-
-// Whether c is a digit up to top.
-fn digit(c: u8, top: u8) -> bool
-    ensures { Decides result (UpTo top c) }
+// A digit up to top, and what stands behind it; or the part, in front of which none stands.
+fn digit(part: &[u8], top: u8) -> Result<(u64, &[u8]), &[u8]>
+    ensures goes_on { IfOk result (λ r. (part.now ≡ (48 + r.0) ∷ r.1.now) × (48 + r.0 ≤ top)) }
+    ensures stops { IfErr result (λ rest. (rest.now ≡ part.now) × NoDigit top part.now) }
 {
-    if c < 48 {
-        return false;
+    match part {
+        [c, behind @ ..] if b'0' <= *c && *c <= top => Ok((u64::from(*c - b'0'), behind)),
+        _ => Err(part),
     }
-    if top < c {
-        return false;
-    }
-    true
 }
 
-// The number that the digit c makes of n.
-fn grown(n: u64, c: u8) -> u64
-    requires { (n ≤ 599) × (48 ≤ c) × (c ≤ 57) }
-    ensures { (result ≡ n * 10 + (c - 48)) × (result < 6000) }
-{
-    n * 10 + (c - 48) as u64
-}
-
-// Whether c may follow i digits that write n.
-fn follows(i: usize, n: u64, c: u8) -> bool
+// The number that i digits, which write n, and the digit c make; None where c may not follow them.
+fn grown(i: usize, n: u64, c: u8) -> Option<u64>
     requires { n ≤ 599 }
-    ensures { Decides result (Follows i n c) }
+    ensures follows { IfSome result (λ more. Follows i n c × (more ≡ n * 10 + (c - 48))) }
+    ensures stops { IfNone result (Follows i n c → ⊥) }
 {
-    if !digit(c, 57) {
-        return false;
+    if c < b'0' || b'9' < c {
+        return None;
     }
     if 0 < i && n == 0 {
-        return false;
+        return None;
     }
-    if 599 < grown(n, c) {
-        return false;
+    let more = n * 10 + u64::from(c - b'0');
+    if 599 < more {
+        return None;
     }
-    true
+    Some(more)
 }
 
-// What stands in front of the colon.
-fn before_colon(text: &[u8]) -> Lead
-    ensures { Led text.now result }
+// The number in front of the colon, and what stands behind the colon.
+fn before_colon(text: &[u8]) -> Result<(u64, &[u8]), &[u8]>
+    ensures { HandsOn Led text.now result }
 {
     let mut n: u64 = 0;
-    let mut i: usize = 0;
-    while i < text.len() {
-        let c = text[i];
-        if c == b':' {
-            if i == 0 {
-                return Lead::Stop(i);
-            }
-            return Lead::Front(n, i + 1);
+    for (i, c) in text.iter().enumerate() {
+        if *c == b':' && 0 < i {
+            return Ok((n, &text[i + 1..]));
         }
-        if !follows(i, n, c) {
-            return Lead::Stop(i);
-        }
-        n = grown(n, c);
-        i += 1;
+        let Some(more) = grown(i, n, *c) else {
+            return Err(&text[i..]);
+        };
+        n = more;
     }
-    Lead::Stop(i)
+    Err(&text[text.len()..])
 }
 
-// The place of a fault, 0 for a value.
-fn place_of(t: Time) -> usize
-    ensures { result ≡ place_of t }
+// The two digits, 00 to 59, that the part begins with, and what stands behind them.
+fn two_digits(part: &[u8]) -> Result<(u64, &[u8]), &[u8]>
+    ensures { HandsOn Paired part.now result }
 {
-    match t {
-        Time::Value(_, _) => 0,
-        Time::Fault(p) => p,
-    }
-}
-
-// What the text reads as, where the part behind its first k bytes reads as t.
-fn placed_on(k: usize, t: Time) -> Time
-    requires { k + place_of t < 2 ^ 64 }
-    ensures { result ≡ placed_on k t }
-{
-    match t {
-        Time::Value(v, f) => Time::Value(v, f),
-        Time::Fault(p) => Time::Fault(k + p),
-    }
-}
-
-// The two digits, 00 to 59, that the part begins with.
-fn two_digits(part: &[u8]) -> Lead
-    ensures { Paired part.now result }
-{
-    if part.len() == 0 {
-        return Lead::Stop(0);
-    }
-    let tens = part[0];
-    if !digit(tens, 53) {
-        return Lead::Stop(0);
-    }
-    if part.len() == 1 {
-        return Lead::Stop(1);
-    }
-    let ones = part[1];
-    if !digit(ones, 57) {
-        return Lead::Stop(1);
-    }
-    Lead::Front(grown(grown(0, tens), ones), 2)
+    let (tens, behind) = digit(part, b'5')?;
+    let (ones, end) = digit(behind, b'9')?;
+    Ok((tens * 10 + ones, end))
 }
 
 // What stands behind `H:MM:`, which make n minutes: two digits of seconds, and nothing behind them.
-fn seconds(part: &[u8], n: u64) -> Time
+fn seconds(part: &[u8], n: u64) -> Result<(u64, Form), &[u8]>
     requires { n ≤ 599 }
-    ensures { ReadsAs (Two (Ended Hours n)) part.now result }
+    ensures { Reads (Two (Ended Hours n)) part.now result }
 {
-    let lead = two_digits(part);
-    match lead {
-        Lead::Stop(p) => Time::Fault(p),
-        Lead::Front(x, k) => {
-            if k < part.len() {
-                return Time::Fault(k);
-            }
-            Time::Value(n * 60 + x, Form::Hours)
-        }
+    let (x, end) = two_digits(part)?;
+    if !end.is_empty() {
+        return Err(end);
     }
+    Ok((n * 60 + x, Form::Hours))
 }
 
 // What stands behind `N:XX`: nothing, if these are minutes and seconds; or a colon and the seconds, if N can be hours.
-fn after(part: &[u8], n: u64, x: u64) -> Time
+fn after(part: &[u8], n: u64, x: u64) -> Result<(u64, Form), &[u8]>
     requires { (n ≤ 599) × (x ≤ 59) }
-    ensures { ReadsAs (After n x) part.now result }
+    ensures { Reads (After n x) part.now result }
 {
-    if part.len() == 0 {
-        return Time::Value(n * 60 + x, Form::Minutes);
+    let [c, behind @ ..] = part else {
+        return Ok((n * 60 + x, Form::Minutes));
+    };
+    if *c != b':' || n < 1 || 9 < n {
+        return Err(part);
     }
-    if part[0] != b':' {
-        return Time::Fault(0);
-    }
-    if n < 1 {
-        return Time::Fault(0);
-    }
-    if 9 < n {
-        return Time::Fault(0);
-    }
-    placed_on(1, seconds(&part[1..], n * 60 + x))
+    seconds(behind, n * 60 + x)
 }
 
 // What stands behind `N:`: two digits, and what may follow them.
-fn behind_colon(part: &[u8], n: u64) -> Time
+fn behind_colon(part: &[u8], n: u64) -> Result<(u64, Form), &[u8]>
     requires { n ≤ 599 }
-    ensures { ReadsAs (Two (After n)) part.now result }
+    ensures { Reads (Two (After n)) part.now result }
 {
-    let lead = two_digits(part);
-    match lead {
-        Lead::Stop(p) => Time::Fault(p),
-        Lead::Front(x, k) => placed_on(k, after(&part[k..], n, x)),
-    }
+    let (x, behind) = two_digits(part)?;
+    after(behind, n, x)
+}
+
+// Reads any text part by part.
+fn by_parts(text: &[u8]) -> Result<(u64, Form), &[u8]>
+    ensures { Reads ByParts text.now result }
+{
+    let (n, behind) = before_colon(text)?;
+    behind_colon(behind, n)
 }
 
 // Reads any text.
 pub fn read(text: &[u8]) -> Time
     ensures { ReadsAs Readable text.now result }
 {
-    let lead = before_colon(text);
-    match lead {
-        Lead::Stop(p) => Time::Fault(p),
-        Lead::Front(n, k) => placed_on(k, behind_colon(&text[k..], n)),
+    match by_parts(text) {
+        Ok((value, form)) => Time::Value(value, form),
+        Err(rest) => Time::Fault(text.len() - rest.len()),
     }
 }
 
 // The number of a form: 0 for none, 1 for minutes, 2 for hours.
-fn form_number(f: Form) -> u64
+fn form_number(f: Option<Form>) -> u64
     ensures { result ≡ form_number f }
 {
     match f {
-        Form::NoTime => 0,
-        Form::Minutes => 1,
-        Form::Hours => 2,
+        None => 0,
+        Some(Form::Minutes) => 1,
+        Some(Form::Hours) => 2,
     }
 }
 
@@ -222,18 +172,17 @@ pub fn answer(text: &[u8]) -> Reading
 {
     let time = read(text);
     let Time::Value(value, form) = time else {
-        let p = place_of(time);
         return Reading {
             answer: 10,
-            place: p as u64,
+            place: time.place() as u64,
             value: 0,
-            form: form_number(Form::NoTime),
+            form: form_number(None),
         };
     };
     Reading {
         answer: 0,
         place: 0,
         value,
-        form: form_number(form),
+        form: form_number(Some(form)),
     }
 }

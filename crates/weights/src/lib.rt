@@ -9,10 +9,13 @@
 // nothing is promised but that the calls are safe and end, whatever the tables hold and however the floats round.
 #![tactic(auto)]
 
-mod basis;
 mod climb;
 mod room;
+mod simplex;
 mod walk;
+
+use room::{InRoom, Room};
+use simplex::{Entering, Simplex};
 
 // What each combination weighs, `plus - minus` in parts of 65536.
 #[derive(Clone, Copy)]
@@ -53,39 +56,20 @@ fn rounded(y: &[f64; 32], scale: f64) -> Weights {
 // Weights for covering `need` within `room`. `sets` has the combinations of each box, `singles` the box of each single combination.
 pub fn propose(sets: &[u32; 243], singles: &[usize; 32], need: u32, room: u32) -> Weights {
     let lows = room::lows();
-    let mut boxes = [0usize; 243];
-    let n = room::inside(sets, room, &mut boxes);
-    let spare = room & !need;
-    let mut inverse = [0.0; 1024];
-    let mut x = [0.0; 32];
-    let mut y = [0.0; 32];
-    climb::start(need, &mut inverse, &mut x, &mut y);
-    climb::climb(
-        &boxes,
-        n,
+    let mut area = [InRoom { number: 0 }; 243];
+    let n = room::inside(sets, room, &mut area);
+    let room = Room {
         sets,
         singles,
-        &lows,
-        spare,
-        &mut inverse,
-        &mut x,
-        &mut y,
-    );
-    let mut mean = y;
-    walk::walk(
-        &boxes,
-        n,
-        sets,
-        singles,
-        &lows,
-        spare,
-        &mut inverse,
-        &mut y,
-        &mut mean,
-    );
+        lows: &lows,
+        boxes: &area[..n],
+        spare: room & !need,
+    };
+    let mut simplex = Simplex::new(need);
+    simplex.climb(&room);
+    let mean = simplex.walk(&room);
     // where a box still weighs more than 1, all weights are made less
     let mut v = [0.0; 243];
-    let best = climb::best_of(&boxes, n, sets, singles, &lows, spare, &mean, &mut v);
-    let most = 1.0 + best.gain;
+    let most = 1.0 + Entering::gain_of(room.best(&mean, &mut v));
     rounded(&mean, 1.0 / most)
 }

@@ -5,6 +5,7 @@ use mathlib.Core.Bool.{Bool, true, false, ◌||◌}
 use mathlib.Core.List.{List, [], ◌++◌, append-nil}
 use native.Mathlib.Omega.{arith}
 use lib.Dec.{eqb}
+use Rattle.std.specs.Prelude.{Option}
 use Rattle.ground.proofs.Cases.{if, clash}
 use Rattle.dates.specs.declared.date.Date.{Date}
 use Rattle.sheet.specs.Record.{opened}
@@ -34,7 +35,7 @@ or_more false false c e = clash e refl
 
 -- the record of a history is one of the desk's: no combination is either, and there is no profile
 
-says_now : (h : History) {line : List ℕ} {c : Call} {f : Form} → Says h.marks line (Make c f) → Says (record_now h).marks line (Make c f)
+says_now : (h : History) {line : List ℕ} {c : Call} {f : Option Form} → Says h.marks line (Make c f) → Says (record_now h).marks line (Make c f)
 says_now h {line} {c} {f} s = subst (λ (m : ℕ). Says m line (Make c f)) (sym (marks_after (opened h.marks) (calls any h.bookings))) s
 
 abbrev pub PlainIn : State → Type 0
@@ -56,13 +57,13 @@ plain_step (unread w) p = p
 plain_step (ended w) p = p
 plain_step Step.silent p = p
 
-call_heard : (h : History) {line : List ℕ} {c : Call} {f : Form} → Plain (record_now h) → Says h.marks line (Make c f)
+call_heard : (h : History) {line : List ℕ} {c : Call} {f : Option Form} → Plain (record_now h) → Says h.marks line (Make c f)
     → (eqb (number_of (record_now h) c) 0 || in_later_line (number_of (record_now h) c)) ≡ true
 call_heard h {line} {c} {f} p s =
     let n = number_of (record_now h) c in
     or_more (eqb n 0) (desk.in_later_line n) (eqb n 11) (call_seen (record_now h) p (says_now h s))
 
-date_heard : (h : History) {line : List ℕ} (d : Date) {c : Call} {f : Form} → Plain (record_now h) → Says h.marks line (Make c f)
+date_heard : (h : History) {line : List ℕ} (d : Date) {c : Call} {f : Option Form} → Plain (record_now h) → Says h.marks line (Make c f)
     → (eqb (booking_number h (on d c)) 0 || in_later_line (booking_number h (on d c))) ≡ true
 date_heard h d p s = if (date_ok h.year (last_date h) d) (λ e. rw e (call_heard h p s)) (λ e. rw e refl)
 

@@ -2,6 +2,7 @@
 use Prim.Native.Nat.{ℕ}
 use mathlib.Core.Bool.{Bool, true, false}
 use mathlib.Core.List.{List}
+use Rattle.std.specs.Prelude.{Option}
 use Rattle.times.specs.declared.Form.{Form}
 use Rattle.changes.specs.declared.Call.{Call}
 use Rattle.dates.specs.declared.date.Date.{Date}
@@ -21,14 +22,14 @@ use Rattle.bookings.specs.Bookings.{on, undated, History, booking_number, after_
 use Rattle.year.specs.Prints.{State, going, Step, names, nameless, opens, shut, stock, late, dated, unread, ended, months, Prints}
 
 module _ {k : ℕ} {h : History} {row : Row} where
-  stock_again : {c : Call} {f : Form} {r : Slip} → SameSlip (Plain (Make c f)) r → RowAsks h.marks row r
+  stock_again : {c : Call} {f : Option Form} {r : Slip} → SameSlip (Plain (Make c f)) r → RowAsks h.marks row r
       → Step k (going false h) row (going false (after_booking h (undated c))) (spoken k (booking_number h (undated c)))
   stock_again (SameSlip.plain SameCall.made) w = stock w
 
-  late_again : {c : Call} {f : Form} {r : Slip} → SameSlip (Plain (Make c f)) r → RowAsks h.marks row r → Step k (going true h) row (going true h) (refusal k 10)
+  late_again : {c : Call} {f : Option Form} {r : Slip} → SameSlip (Plain (Make c f)) r → RowAsks h.marks row r → Step k (going true h) row (going true h) (refusal k 10)
   late_again (SameSlip.plain SameCall.made) w = late w
 
-  dated_again : {b : Bool} {d : Date} {c : Call} {f : Form} {r : Slip} → SameSlip (Dated d c f) r → RowAsks h.marks row r
+  dated_again : {b : Bool} {d : Date} {c : Call} {f : Option Form} {r : Slip} → SameSlip (Dated d c f) r → RowAsks h.marks row r
       → Step k (going b h) row (going true (after_booking h (on d c))) (spoken k (booking_number h (on d c)))
   dated_again SameSlip.dated w = dated w
 

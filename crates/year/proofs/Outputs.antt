@@ -4,6 +4,7 @@ use mathlib.Core.Path.{◌≡◌, refl, sym, ap, ◌∙◌, subst}
 use mathlib.Core.Bool.{Bool, true, false, true≢false}
 use mathlib.Core.List.{List, []}
 use native.Mathlib.Omega.{arith}
+use Rattle.std.specs.Prelude.{Option, Some, None}
 use Rattle.ground.proofs.Cases.{same_or}
 use Rattle.dates.specs.declared.date.Date.{Date}
 use Rattle.histories.specs.Histories.{Good}
@@ -12,11 +13,8 @@ use Rattle.machine.specs.Machine.{refusal, spoken}
 use Rattle.machine.specs.Answers.{OneAnswer, SomeAnswer}
 use Rattle.machine.proofs.Outputs.{can_step, one_output}
 use Rattle.lines.specs.declared.Order.TheVariants.{Make, End, Unreadable}
-use Rattle.lines.specs.declared.First.{First}
 use Rattle.lines.proofs.Settled.{row_opens_settled}
 use Rattle.lines.proofs.Decided.{row_opens_decided}
-use Rattle.year_lines.specs.declared.Named.{Named}
-use Rattle.year_lines.specs.declared.Named.TheVariants.{Year, NoYear}
 use Rattle.year_lines.specs.declared.Slip.{Slip}
 use Rattle.year_lines.specs.declared.Slip.TheVariants.{Dated, Plain}
 use Rattle.year_lines.specs.Slips.{RowNames, RowAsks}
@@ -69,13 +67,13 @@ led_step k false h row (Plain End) w = ended w
 
 -- one output
 
-year_no : Named → ℕ
-year_no (Year y) = y
-year_no NoYear = 0
+year_no : Option ℕ → ℕ
+year_no (Some y) = y
+year_no None = 0
 
-is_year : Named → ℕ
-is_year (Year y) = 1
-is_year NoYear = 0
+is_year : Option ℕ → ℕ
+is_year (Some y) = 1
+is_year None = 0
 
 going_one : {k : ℕ} {b : Bool} {h : History} {t u : State} {row : Row} {x y : List ℕ} → Step k (going b h) row t x → Step k (going b h) row u y → (t ≡ u) × (x ≡ y)
 going_one {k} {b} {h} p q =
@@ -86,15 +84,15 @@ going_one {k} {b} {h} p q =
 
 step_one : {k : ℕ} {s t u : State} {row : Row} {a b : List ℕ} → Step k s row t a → Step k s row u b → (t ≡ u) × (a ≡ b)
 unfolding year_no is_year
-step_one {s = first} (names w) (names v) = (ap (λ (n : Named). named (year_no n)) (row_names_settled w v), refl)
+step_one {s = first} (names w) (names v) = (ap (λ (n : Option ℕ). named (year_no n)) (row_names_settled w v), refl)
 step_one {s = first} (names w) (nameless v) = absurd (omega (arith, ap is_year (row_names_settled w v)))
 step_one {s = first} (nameless w) (names v) = absurd (omega (arith, ap is_year (row_names_settled w v)))
 step_one {s = first} (nameless w) (nameless v) = (refl, refl)
-step_one {s = named y} (opens w z) (opens v q) = (ap (λ (f : First). going false (opening y f)) (row_opens_settled w v), refl)
+step_one {s = named y} (opens w z) (opens v q) = (ap (λ (f : Option ℕ). going false (opening y f)) (row_opens_settled w v), refl)
 step_one {s = named y} (opens w z) (shut v n) = absurd (n (ap first_number (sym (row_opens_settled w v)) ∙ z))
 step_one {s = named y} (shut v n) (opens w z) = absurd (n (ap first_number (row_opens_settled v w) ∙ z))
 step_one {k} {s = named y} (shut w n) (shut v q) =
-    (ap (λ (f : First). over (opening y f)) (row_opens_settled w v), ap (λ (f : First). refusal k (first_number f)) (row_opens_settled w v))
+    (ap (λ (f : Option ℕ). over (opening y f)) (row_opens_settled w v), ap (λ (f : Option ℕ). refusal k (first_number f)) (row_opens_settled w v))
 step_one {s = going b h} p q = going_one p q
 step_one {s = over h} Step.silent Step.silent = (refl, refl)
 
@@ -112,7 +110,7 @@ one_answer = record { step = step_one; stop = stop_one }
 pub good_start : (y : ℕ) → Kept (begun y 1)
 good_start y = kept-begun y 1 good_one
 
-pub good_opening : (y : ℕ) (f : First) → Kept (opening y f)
+pub good_opening : (y : ℕ) (f : Option ℕ) → Kept (opening y f)
 good_opening y f = kept-begun y (first_record f).marks (subst Good (first_record_opened f) (good_first f))
 
 sensible_led : (k : ℕ) (b : Bool) (h : History) (s : Slip) → Sensible (going b h) → Sensible (led k b h s).0
@@ -129,9 +127,9 @@ sensible_led k false h (Plain End) w = w.0
 step_some : (k : ℕ) (s : State) (row : Row) → Sensible s → (t : State) × (now : List ℕ) × Step k s row t now × Sensible t
 step_some k first row w = go (row_names_decided row)
   where
-    go : (n : Named) × RowNames row n → (t : State) × (now : List ℕ) × Step k first row t now × Sensible t
-    go (Year y, v) = (named y, [], names v, good_start y)
-    go (NoYear, v) = (over (begun 0 1), refusal k 10, nameless v, good_start 0)
+    go : (n : Option ℕ) × RowNames row n → (t : State) × (now : List ℕ) × Step k first row t now × Sensible t
+    go (Some y, v) = (named y, [], names v, good_start y)
+    go (None, v) = (over (begun 0 1), refusal k 10, nameless v, good_start 0)
 step_some k (named y) row w =
     let v = row_opens_decided row in
     same_or (first_number v.0) 0

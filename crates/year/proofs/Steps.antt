@@ -6,6 +6,7 @@ use mathlib.Core.List.{List, []}
 use native.Mathlib.Omega.{arith}
 use lib.ListN.{replicate}
 use borrow.Author.Tests.{eq-eqb}
+use Rattle.std.specs.Prelude.{Option, Some, None}
 use Rattle.ground.specs.Areas.{Wrote}
 use Rattle.ground.proofs.Areas.{wrote_none}
 use Rattle.dates.specs.declared.date.Date.{Date}
@@ -28,8 +29,6 @@ use Rattle.machine.proofs.Outputs.{stepped_one, stopped_one}
 use Rattle.machine.proofs.Steps.{answered, refused}
 use Rattle.times.specs.declared.Form.{Form}
 use Rattle.lines.specs.declared.Order.TheVariants.{Make, End, Unreadable}
-use Rattle.year_lines.specs.declared.Named.{Named}
-use Rattle.year_lines.specs.declared.Named.TheVariants.{Year as YearNamed, NoYear}
 use Rattle.year_lines.specs.declared.Slip.TheVariants.{Dated, Plain}
 use Rattle.year_lines.specs.Slips.{RowNames, RowAsks}
 use Rattle.desk.specs.Prints.{first_number, first_record}
@@ -67,7 +66,7 @@ begun-is stage y m e = λ i. record {
 }
 
 module _ {row : Row} {k : ℕ} {out : List ℕ} {year : Year} where
-  pub line_named : {n : Named} {y : ℕ} {sheet : Sheet} → RowNames row n → n ≡ YearNamed y → sheet ≡ sheet_of entries (opened 1) → year ≡ beginning Opening y sheet
+  pub line_named : {n : Option ℕ} {y : ℕ} {sheet : Sheet} → RowNames row n → n ≡ Some y → sheet ≡ sheet_of entries (opened 1) → year ≡ beginning Opening y sheet
       → SteppedTo k first row out (record { year = year; wrote = 0 }) out
   line_named {y = y} r q e is = record {
     state = named y;
@@ -78,7 +77,7 @@ module _ {row : Row} {k : ℕ} {out : List ℕ} {year : Year} where
     short = omega arith;
   }
 
-  pub line_nameless : {w : ℕ} {later : List ℕ} {n : Named} {sheet : Sheet} → RowNames row n → n ≡ NoYear → sheet ≡ sheet_of entries (opened 1) → year ≡ beginning Over 0 sheet
+  pub line_nameless : {w : ℕ} {later : List ℕ} {n : Option ℕ} {sheet : Sheet} → RowNames row n → n ≡ None → sheet ≡ sheet_of entries (opened 1) → year ≡ beginning Over 0 sheet
       → Wrote out 0 (refusal k 10) w later → w ≤ page_room → SteppedTo k first row out (record { year = year; wrote = w }) later
   line_nameless r q e is p short = answered (over (begun 0 1)) 10 (nameless (subst (RowNames row) q r)) (is ∙ begun-is Over 0 1 e) refl p short
 
@@ -153,13 +152,13 @@ module _ {y : Year} {b : Bool} {h : History} (i : In y (going b h)) where
   module _ {row : Row} {k w : ℕ} {out later : List ℕ} where
     -- a call without a date
 
-    pub undated_late : {c : Call} {f : Form} → y.dated ≡ true → RowAsks h.marks row (Plain (Make c f)) → Wrote out 0 (refusal k 10) w later → w ≤ page_room
+    pub undated_late : {c : Call} {f : Option Form} → y.dated ≡ true → RowAsks h.marks row (Plain (Make c f)) → Wrote out 0 (refusal k 10) w later → w ≤ page_room
         → SteppedTo k (going b h) row out (record { year = y; wrote = w }) later
     undated_late {c} e r p short =
         let q : b ≡ true = sym dated_is ∙ e in
         answered (going b h) 10 (subst (λ (t : Bool). Step k (going t h) row (going t h) (refusal k 10)) (sym q) (late r)) i.is refl p short
 
-    pub undated_stock : {c : Call} {f : Form} {a : Answer} → y.dated ≡ false → RowAsks h.marks row (Plain (Make c f)) → a ≡ did_of most_marks y.sheet c
+    pub undated_stock : {c : Call} {f : Option Form} {a : Answer} → y.dated ≡ false → RowAsks h.marks row (Plain (Make c f)) → a ≡ did_of most_marks y.sheet c
         → Wrote out 0 (spoken k a.number) w later → w ≤ page_room
         → SteppedTo k (going b h) row out
         (record { year = record { stage = Going; dated = false; sheet = a.sheet; last = y.last; closed = y.closed }; wrote = w }) later
@@ -179,7 +178,7 @@ module _ {y : Year} {b : Bool} {h : History} (i : In y (going b h)) where
 
     -- a call on a day
 
-    module _ {d : Date} {c : Call} {f : Form} (r : RowAsks h.marks row (Dated d c f)) where
+    module _ {d : Date} {c : Call} {f : Option Form} (r : RowAsks h.marks row (Dated d c f)) where
       not_taken : {year : Year} {a : ℕ} → a ≡ booking_number h (on d c) → (a ≡ 0 → ⊥) → year ≡ at_stage Going true y → Wrote out 0 (spoken k a) w later → w ≤ page_room
           → SteppedTo k (going b h) row out (record { year = year; wrote = w }) later
       not_taken q n e p short =

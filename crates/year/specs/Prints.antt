@@ -1,6 +1,7 @@
 -- What a session of `months` prints (02, Q-2): which output bytes belong to which input bytes. It is told line by line: what a line leads to and prints
 -- at once (`Step`), and what the end of the input prints (`Stop`); machine/specs/Machine puts these together. What is accepted is kept with its date
 -- (bookings); a row is worked out from the accepted calls alone.
+use Rattle.std.specs.Prelude.{Option, Some, None}
 use Rattle.std.specs.Prelude.{ℕ, zero, suc, ◌≡◌, Bool, true, false, List, [], ◌++◌}
 use Rattle.ground.specs.Texts.{ascii}
 use Rattle.print.specs.Texts.{clock}
@@ -11,9 +12,7 @@ use Rattle.machine.specs.Rows.{Row}
 use Rattle.machine.specs.Machine.{Machine, Output, refusal, spoken}
 use Rattle.times.specs.declared.Form.{Form}
 use Rattle.lines.specs.declared.Order.TheVariants.{Make, End, Unreadable}
-use Rattle.lines.specs.declared.First.{First}
 use Rattle.lines.specs.Words.{RowOpens}
-use Rattle.year_lines.specs.declared.Named.TheVariants.{Year, NoYear}
 use Rattle.year_lines.specs.declared.Slip.TheVariants.{Dated, Plain}
 use Rattle.year_lines.specs.Slips.{RowNames, RowAsks}
 use Rattle.desk.specs.Prints.{first_number, first_record}
@@ -44,22 +43,22 @@ pub data State : Type 0 where
   over : History → State
 
 -- the history that line 2 begins
-abbrev pub opening : ℕ → First → History
+abbrev pub opening : ℕ → Option ℕ → History
 opening y f = begun y (first_record f).marks
 
 -- line k: the state behind it, and what is printed at once
 pub data Step (k : ℕ) : State → Row → State → List ℕ → Type 0 where
   -- line 1 names the year, and line 2 opens a sheet as line 1 of `holdings` does; if one is refused nothing else is printed
-  names : {row : Row} {y : ℕ} → RowNames row (Year y) → Step k first row (named y) []
-  nameless : {row : Row} → RowNames row NoYear → Step k first row (over (begun 0 1)) (refusal k 10)
-  opens : {row : Row} {y : ℕ} {f : First} → RowOpens row f → first_number f ≡ 0 → Step k (named y) row (going false (opening y f)) []
-  shut : {row : Row} {y : ℕ} {f : First} → RowOpens row f → (first_number f ≡ 0 → ⊥) → Step k (named y) row (over (opening y f)) (refusal k (first_number f))
+  names : {row : Row} {y : ℕ} → RowNames row (Some y) → Step k first row (named y) []
+  nameless : {row : Row} → RowNames row None → Step k first row (over (begun 0 1)) (refusal k 10)
+  opens : {row : Row} {y : ℕ} {f : Option ℕ} → RowOpens row f → first_number f ≡ 0 → Step k (named y) row (going false (opening y f)) []
+  shut : {row : Row} {y : ℕ} {f : Option ℕ} → RowOpens row f → (first_number f ≡ 0 → ⊥) → Step k (named y) row (over (opening y f)) (refusal k (first_number f))
   -- a call without a date, as `holdings` takes it; behind a dated line it is unreadable
-  stock : {row : Row} {h : History} {c : Call} {f : Form} → RowAsks h.marks row (Plain (Make c f))
+  stock : {row : Row} {h : History} {c : Call} {f : Option Form} → RowAsks h.marks row (Plain (Make c f))
       → Step k (going false h) row (going false (after_booking h (undated c))) (spoken k (booking_number h (undated c)))
-  late : {row : Row} {h : History} {c : Call} {f : Form} → RowAsks h.marks row (Plain (Make c f)) → Step k (going true h) row (going true h) (refusal k 10)
+  late : {row : Row} {h : History} {c : Call} {f : Option Form} → RowAsks h.marks row (Plain (Make c f)) → Step k (going true h) row (going true h) (refusal k 10)
   -- a call on a day
-  dated : {row : Row} {b : Bool} {h : History} {d : Date} {c : Call} {f : Form} → RowAsks h.marks row (Dated d c f)
+  dated : {row : Row} {b : Bool} {h : History} {d : Date} {c : Call} {f : Option Form} → RowAsks h.marks row (Dated d c f)
       → Step k (going b h) row (going true (after_booking h (on d c))) (spoken k (booking_number h (on d c)))
   -- a line that cannot be read, and `end`, behind which the rows are printed
   unread : {row : Row} {b : Bool} {h : History} → RowAsks h.marks row (Plain Unreadable) → Step k (going b h) row (going b h) (refusal k 10)

@@ -1,5 +1,5 @@
 // The stages of a session: a state by value, and what a line and the end of the input do to it.
-ghost use Rattle.std.specs.Prelude.{◌≡◌, Bool, ◌+◌, ◌≤◌, length};
+ghost use Rattle.std.specs.Prelude.{◌≡◌, Bool, ◌+◌, ◌≤◌, Option, length};
 ghost use Rattle.machine.specs.AtHand.{row_of, LineFits};
 ghost use Rattle.machine.specs.Steps.{page_room, StoppedBy};
 ghost use Rattle.times.specs.declared.Form.{Form};
@@ -21,7 +21,7 @@ use machine::Line;
 use sheet::Sheet;
 use totals;
 use year_lines;
-use year_lines::{Named, Slip};
+use year_lines::Slip;
 
 // In front of line 1, in front of line 2, behind it, or over.
 #[derive(Clone, Copy)]
@@ -116,7 +116,7 @@ fn year_line(line: Line, out: &mut [u8]) -> Stepped
 {
     let name = year_lines::year_of(line);
     let sheet = Sheet::opened(1);
-    let Named::Year(y) = name else {
+    let Some(y) = name else {
         let wrote = machine::refusal(out, line.number, 10);
         let year = begun(Stage::Over, 0, sheet);
         return Stepped { year, wrote };
@@ -175,7 +175,7 @@ fn totals_to(y: Year, month: usize) -> [u64; 12]
 fn undated(y: Year, call: Call, number: u64, out: &mut [u8]) -> Stepped
     requires goes_on { GoesOn y }
     requires page_room_in_bounds { page_room ≤ length out.old }
-    ensures { (f : Form) → AnswersSlip y number (Plain (Make call f)) out.old result out.new }
+    ensures { (f : Option Form) → AnswersSlip y number (Plain (Make call f)) out.old result out.new }
 {
     if y.dated {
         let wrote = machine::refusal(out, number, 10);
@@ -201,7 +201,7 @@ fn undated(y: Year, call: Call, number: u64, out: &mut [u8]) -> Stepped
 fn on_day(y: Year, date: Date, call: Call, number: u64, out: &mut [u8]) -> Stepped
     requires goes_on { GoesOn y }
     requires page_room_in_bounds { page_room ≤ length out.old }
-    ensures { (f : Form) → AnswersSlip y number (Dated date call f) out.old result out.new }
+    ensures { (f : Option Form) → AnswersSlip y number (Dated date call f) out.old result out.new }
 {
     let begun = y.at_stage(Stage::Going, true);
     let last = y.last;

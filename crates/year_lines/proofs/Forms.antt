@@ -3,6 +3,7 @@ use Prim.Native.Nat.{ℕ}
 use mathlib.Core.Path.{sym, ap, ◌∙◌, subst}
 use mathlib.Core.List.{List, ◌++◌}
 use native.Mathlib.Omega.{arith}
+use Rattle.std.specs.Prelude.{Option}
 use Rattle.ground.specs.Texts.{ascii}
 use Rattle.ground.proofs.Without.{Without, without_append}
 use Rattle.ground.proofs.Figures.{figures_without}
@@ -13,7 +14,6 @@ use Rattle.changes.specs.declared.Call.{Call}
 use Rattle.lines.specs.Forms.{OtherForm}
 use Rattle.lines.specs.declared.Order.{Order}
 use Rattle.lines.proofs.Forms.{flip, has_colon, call_again, SameCall, other_asked}
-use Rattle.year_lines.specs.declared.Named.{Named}
 use Rattle.year_lines.specs.declared.Slip.{Slip}
 use Rattle.year_lines.specs.declared.Slip.TheVariants.{Dated, Plain}
 use Rattle.year_lines.specs.Slips.{YearLine, NamesYear, year, SaysOn, Asked}
@@ -39,10 +39,10 @@ year_plain {y = y} w =
 
 -- the same is asked for, but for the form
 pub data SameSlip : Slip → Slip → Type 0 where
-  dated : {d : Date} {c : Call} {f g : Form} → SameSlip (Dated d c f) (Dated d c g)
+  dated : {d : Date} {c : Call} {f g : Option Form} → SameSlip (Dated d c f) (Dated d c g)
   plain : {o p : Order} → SameCall o p → SameSlip (Plain o) (Plain p)
 
-says_on_again : {m : ℕ} {line other : List ℕ} {d : Date} {c : Call} {f : Form} → OtherForm line other → SaysOn m line d c f → (g : Form) × SaysOn m other d c g
+says_on_again : {m : ℕ} {line other : List ℕ} {d : Date} {c : Call} {f : Option Form} → OtherForm line other → SaysOn m line d c f → (g : Option Form) × SaysOn m other d c g
 says_on_again {d = d} o s =
     let w = call_again o (date_text d ++ ascii " ") (date_plain d) s.date.text s.call in
     (w.form, record { rest = w.rest; date = record { year = s.date.year; month = s.date.month; day = s.date.day; text = w.text }; call = w.says })
@@ -54,6 +54,6 @@ module _ {line other : List ℕ} (o : OtherForm line other) where
       let w = other_asked o a in
       (Plain w.0, Asked.plain (λ d c f s. let k = says_on_again (flip o) s in n d c k.0 k.1) w.1, SameSlip.plain w.2)
 
-  pub other_names : {n : Named} → NamesYear line n → NamesYear other n
+  pub other_names : {n : Option ℕ} → NamesYear line n → NamesYear other n
   other_names (year w) = absurd (has_colon o (year_plain w))
   other_names (NamesYear.other n) = NamesYear.other (λ y w. has_colon (flip o) (year_plain w))

@@ -4,72 +4,68 @@
 ghost use Rattle.std.specs.Prelude.{◌≤◌};
 ghost use Rattle.machine.specs.AtHand.{row_of, LineFits};
 ghost use Rattle.year_lines.specs.Slips.{NamesYear, RowNames, Asked, RowAsks};
+ghost use Rattle.year_lines.specs.Parts.{DatedOr};
 
 use changes::Call;
 use dates;
-use dates::{Date, Dating, Number};
+use dates::Date;
 use lines;
 use lines::Order;
 use machine::Line;
 use times::Form;
 
-// What line 1 says.
-#[derive(Clone, Copy)]
-pub enum Named {
-    Year(usize),
-    NoYear,
-}
-
-// What a line behind line 2 asks for: a call on a day, with the form of its running time, or what it asks for as a line of the desk.
+// What a line behind line 2 asks for: a call on a day, with the form of its running time if it has one, or what it asks for as a line of the desk.
 #[derive(Clone, Copy)]
 pub enum Slip {
-    Dated(Date, Call, Form),
+    Dated(Date, Call, Option<Form>),
     Plain(Order),
 }
 
-// What the bytes of line 1 say: `year` and four digits, 1600 to 9999.
-pub fn read_year(line: &[u8]) -> Named
+// The year that the bytes of line 1 name: `year` and four digits, 1600 to 9999.
+pub fn read_year(line: &[u8]) -> Option<usize>
     ensures { NamesYear line.now result }
 {
-    if !ground::begins(line, b"year ") {
-        return Named::NoYear;
+    let part = lines::behind(line, b"year ")?;
+    if part.len() != 4 {
+        return None;
     }
-    if line.len() != 9 {
-        return Named::NoYear;
-    }
-    let n = dates::read_number(&line[5..]);
-    let Number::Digits(year) = n else {
-        return Named::NoYear;
-    };
+    let year = dates::read_number(part)?;
     if year < 1600 {
-        return Named::NoYear;
+        return None;
     }
-    Named::Year(year)
+    Some(year)
 }
 
-// What the bytes of a line behind line 2 ask for, of a sheet with m marks. Behind a date a line is read as a whole, and only a call may stand there.
+// What a line asks for that has a date in front. Behind the date it is read as a whole line, and only a call may stand there.
+fn dated(line: &[u8], m: usize) -> Option<Slip>
+    requires { m ≤ 8 }
+    ensures { DatedOr m line.now result }
+{
+    let date = dates::read_date(line)?;
+    let Order::Make(call, form) = lines::read(&line[11..], m) else {
+        return None;
+    };
+    Some(Slip::Dated(date, call, form))
+}
+
+// What the bytes of a line behind line 2 ask for, of a sheet with m marks.
 pub fn read(line: &[u8], m: usize) -> Slip
     requires { m ≤ 8 }
     ensures { Asked m line.now result }
 {
-    let dating = dates::read_date(line);
-    let Dating::On(date) = dating else {
-        return Slip::Plain(lines::read(line, m));
-    };
-    let order = lines::read(&line[11..], m);
-    let Order::Make(call, form) = order else {
-        return Slip::Plain(lines::read(line, m));
-    };
-    Slip::Dated(date, call, form)
+    if let Some(slip) = dated(line, m) {
+        return slip;
+    }
+    Slip::Plain(lines::read(line, m))
 }
 
 // What the line at hand says as line 1; one that is too long or cut off names no year.
-pub fn year_of(line: Line) -> Named
+pub fn year_of(line: Line) -> Option<usize>
     requires { LineFits line }
     ensures { RowNames (row_of line) result }
 {
     if line.long {
-        return Named::NoYear;
+        return None;
     }
     let len = line.len;
     let text = line.text;

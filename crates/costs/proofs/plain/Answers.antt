@@ -1,7 +1,6 @@
 -- Each box costs the same, so that a list costs that for each of its boxes.
-use Rattle.sets.specs.Sets.{has}
 use Rattle.costs.proofs.Cost.{plain_certified}
 use Rattle.costs.proofs.plain.Goals as goal
 
 pub returns : goal.returns
-returns c = plain_certified c.args.m (has c.args.need) (has c.args.room) c.requires
+returns c = plain_certified

@@ -1,28 +1,23 @@
--- Each way out is the law of what was tested; the part behind the space goes to the reader of times.
-use mathlib.Core.Path.{sym}
-use native.Mathlib.Omega.{arith}
-use lib.Seq.{length-take-le}
-use Rattle.lines.proofs.Orders.{amount_short, amount_unspaced, amount_unnamed, amount_untimed, amount_read}
+-- Each way out is the law of what was tested.
+use Rattle.std.proofs.Common.{arith, sym, ◌∙◌}
+use Rattle.lines.proofs.Orders.{spaced, amount_short, amount_unspaced, amount_unnamed, amount_untimed, amount_read}
 use Rattle.lines.proofs.read_amount.Goals as goal
 
 pub returns-then-part-m : goal.returns-then-part-m
 returns-then-part-m c = amount_short _ _ (omega arith)
 
-pub returns-then-part-m-ne32 : goal.returns-then-part-m-ne32
-returns-then-part-m-ne32 c = amount_unspaced _ _ (omega arith)
-
-pub slice_bounds-read_pattern-end : goal.slice_bounds-read_pattern-end
-slice_bounds-read_pattern-end c = sym (length-take-le _ _ (omega arith))
-
 pub returns-in_default : goal.returns-in_default
-returns-in_default c = amount_unnamed _ _ (rw c.in_default.is at c.read_pattern-pattern.ensures)
+returns-in_default c = amount_short _ _ (omega arith)
 
-pub returns-in_default-time : goal.returns-in_default-time
-returns-in_default-time c = amount_untimed _ _ (rw c.in_default-time.is at c.read-time.ensures)
+pub returns-in_default-2 : goal.returns-in_default-2
+returns-in_default-2 c = amount_unspaced _ _ (rw (sym c.split_at.ensures.back) (λ e. omega arith))
+
+pub returns-in_err-c : goal.returns-in_err-c
+returns-in_err-c c = rw c.from_residual.ensures (amount_unnamed _ _ (rw c.split_at.ensures.front at c.in_err-c.ensures))
+
+pub returns-in_default-read : goal.returns-in_default-read
+returns-in_default-read c = amount_untimed _ _ (sym c.split_at.ensures.back ∙ spaced _ (omega arith) (omega arith)) c.in_default-read.ensures
 
 pub returns : goal.returns
 returns c =
-    let s = c.args in
-    amount_read s.m s.part.now (omega arith) (omega arith)
-    (rw c.in-Combination.is at c.read_pattern-pattern.ensures)
-    (rw c.in-Value.is at c.read-time.ensures)
+    amount_read _ _ (sym c.split_at.ensures.back ∙ spaced _ (omega arith) (omega arith)) (rw c.split_at.ensures.front at c.in_ok-c.ensures) c.in-Value.ensures

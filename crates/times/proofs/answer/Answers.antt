@@ -12,7 +12,7 @@ refused p f = record { answer = 10; place = p; value = 0; form = f }
 pub returns-in_default : goal.returns-in_default
 returns-in_default c =
     let e = c.in_default.is in
-    record { time = c.read-time.result; reads = c.read-time.ensures; is = ap₂ refused (c.place_of-p.ensures ∙ ap place_of e) c.form_number.ensures ∙ sym (ap reading_of e) }
+    record { time = c.read-time.result; reads = c.read-time.ensures; is = ap₂ refused (c.place.ensures ∙ ap place_of e) c.form_number.ensures ∙ sym (ap reading_of e) }
 
 pub returns : goal.returns
 returns c =

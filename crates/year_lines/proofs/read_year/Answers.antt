@@ -1,30 +1,19 @@
 -- Each way out is the law of what was tested.
-use mathlib.Core.Path.{refl}
-use native.Mathlib.Omega.{arith}
-use Rattle.ground.specs.Texts.{ascii, Begins}
-use Rattle.ground.proofs.Beginnings.{behind}
-use Rattle.ground.proofs.Cases.{denied}
+use Rattle.std.proofs.Common.{arith}
 use Rattle.year_lines.proofs.Years.{names_other, names_long, names_unwritten, names_early, names_year}
 use Rattle.year_lines.proofs.read_year.Goals as goal
-use Rattle.year_lines.proofs.read_year.Goals.{Else-line-ne9}
 
-begun : (c : Else-line-ne9) → Begins (ascii "year ") c.args.line.now
-begun c = c.begins.ensures.yes c.if-not-begins.false
+pub returns-in_err-part : goal.returns-in_err-part
+returns-in_err-part c = rw c.from_residual.ensures (names_other _ c.in_err-part.ensures)
 
-pub returns-then-not-begins : goal.returns-then-not-begins
-returns-then-not-begins c = names_other _ (denied c.begins.ensures c.if-not-begins.true)
+pub returns-then-part-ne4 : goal.returns-then-part-ne4
+returns-then-part-ne4 c = names_long c.in_ok-part.ensures (omega arith)
 
-pub returns-then-line-ne9 : goal.returns-then-line-ne9
-returns-then-line-ne9 c = names_long _ (omega arith)
-
-pub returns-in_default : goal.returns-in_default
-returns-in_default c =
-    names_unwritten (behind (ascii "year ") _ 5 (begun (goal.at.returns-in_default c).Else-line-ne9) refl) (omega arith) (rw c.in_default.is at c.read_number-n.ensures)
+pub returns-in_err-year : goal.returns-in_err-year
+returns-in_err-year c = rw c.from_residual-in_err-year.ensures (names_unwritten c.in_ok-part.ensures (omega arith) c.in_err-year.ensures)
 
 pub returns-then-year-lt1600 : goal.returns-then-year-lt1600
-returns-then-year-lt1600 c =
-    names_early (behind (ascii "year ") _ 5 (begun (goal.at.returns-then-year-lt1600 c).Else-line-ne9) refl) (omega arith) (rw c.in-Digits.is at c.read_number-n.ensures) (omega arith)
+returns-then-year-lt1600 c = names_early c.in_ok-part.ensures (omega arith) c.in_ok-year.ensures (omega arith)
 
 pub returns : goal.returns
-returns c =
-    names_year (behind (ascii "year ") _ 5 (begun (goal.at.returns c).Else-line-ne9) refl) (omega arith) (rw c.in-Digits.is at c.read_number-n.ensures) (omega arith)
+returns c = names_year c.in_ok-part.ensures (omega arith) c.in_ok-year.ensures (omega arith)

@@ -6,4 +6,4 @@ pub returns-in_default : goal.returns-in_default
 returns-in_default c = first_lost c.first_of-first.ensures c.in_default.is c.opened-sheet.ensures
 
 pub returns : goal.returns
-returns c = first_marks c.first_of-first.ensures c.in-Marks.is c.«open».ensures
+returns c = first_marks c.first_of-first.ensures c.in-Some.is c.«open».ensures

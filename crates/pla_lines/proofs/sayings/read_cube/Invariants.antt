@@ -1,12 +1,7 @@
--- The signs that have come are the pattern of a box (`Signs`); another length or another byte is no cube.
-use Prim.Native.Nat.{◌-◌, ◌≤◌}
-use mathlib.Core.Path.{◌≡◌}
-use lib.ListN.{length}
+-- The signs that have come are the pattern of a box.
+use Rattle.std.proofs.Common.{◌≡◌, length}
 use Rattle.pla_lines.proofs.Cubes.{Signs}
 use Rattle.pla_lines.proofs.sayings.read_cube.Given as goal
 
-abbrev pub invariant-loop-i : goal.invariant-loop-i
-invariant-loop-i l = (length l.word ≡ l.m) × (l.i ≤ l.m) × Signs l.word l.i l.b
-
-abbrev pub decreases-loop-i : goal.decreases-loop-i
-decreases-loop-i l = l.m - l.i
+abbrev pub invariant-loop-sign : goal.invariant-loop-sign
+invariant-loop-sign l = (length l.word ≡ l.m) × Signs l.word l.sign-index l.b

@@ -10,4 +10,4 @@ returns-in_default c =
     (spoken_short c.args.line.number 10 c.refusal-wrote.ensures (omega arith) (omega arith))
 
 pub returns : goal.returns
-returns c = line_named c.year_of-name.ensures c.in-Year.is c.opened-sheet.ensures c.begun-year-2.ensures
+returns c = line_named c.year_of-name.ensures c.in-Some.is c.opened-sheet.ensures c.begun-year-2.ensures

@@ -1,9 +1,0 @@
--- The loop stays within the boxes of the room.
-use Rattle.std.proofs.Common.{◌-◌, ◌≤◌}
-use Rattle.weights.proofs.walk.nearest_box.Given as goal
-
-abbrev pub invariant-loop-i : goal.invariant-loop-i
-invariant-loop-i l = l.i ≤ l.n
-
-abbrev pub decreases-loop-i : goal.decreases-loop-i
-decreases-loop-i l = l.n - l.i

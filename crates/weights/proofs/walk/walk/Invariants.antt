@@ -1,9 +1,0 @@
--- The loop ends: each turn counts a step.
-use Rattle.std.proofs.Common.{◌-◌, ◌≤◌}
-use Rattle.weights.proofs.walk.walk.Given as goal
-
-abbrev pub invariant-loop-k : goal.invariant-loop-k
-invariant-loop-k l = l.k ≤ 30
-
-abbrev pub decreases-loop-k : goal.decreases-loop-k
-decreases-loop-k l = 30 - l.k
