@@ -29,7 +29,7 @@ use Rattle.totals.specs.Totals.{Totalled}
 use Rattle.stored.specs.Fields.{marks, due, Outcome, good, refused, Run}
 use Rattle.stored.specs.Answers.{read_of, ReadBy, Writes}
 use Rattle.stored.specs.Sections.{Rest}
-use Rattle.stored.specs.declared.Read.{Read}
+use Rattle.stored.specs.Told.{Read}
 use Rattle.stored.proofs.Refusals.{refusals}
 use Rattle.pla.specs.Answers.{ReadsPla, WritesPla}
 use Rattle.pla.proofs.Runs.{refusals as pla-refusals}

@@ -32,7 +32,7 @@ use Rattle.stored.specs.Answers.{read_of, ReadsBy}
 use Rattle.stored.specs.Fields.{good, ReadingBy}
 use Rattle.stored.specs.declared.Layout.TheVariants.{First, Today}
 use Rattle.stored.specs.Form.{form}
-use Rattle.stored.specs.declared.Read.{Read}
+use Rattle.stored.specs.Told.{Read}
 use Rattle.stored.proofs.IsForm.{is-form}
 use Rattle.stored.proofs.Runs.{one}
 use Rattle.pla.specs.Reading.{PlaSays}

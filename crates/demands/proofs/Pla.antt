@@ -29,7 +29,7 @@ use Rattle.sheet.proofs.Told.{in-not-out, not_out_low}
 use Rattle.listing.proofs.Laid.{class_small}
 use Rattle.stored.specs.Fields.{Outcome, good, refused}
 use Rattle.stored.specs.Answers.{read_of, Writes}
-use Rattle.stored.specs.declared.Read.{Read}
+use Rattle.stored.specs.Told.{Read}
 use Rattle.stored.proofs.Trips.{told_agrees}
 use Rattle.histories.proofs.Travels.{five}
 use Rattle.pla.specs.Sayings.{cube, Says}

@@ -31,7 +31,7 @@ use Rattle.stored.specs.declared.Section.TheVariants as Sections
 use Rattle.stored.specs.declared.Section.TheVariants.{Class, Held}
 use Rattle.stored.specs.Answers.{ReadsBy, Writes}
 use Rattle.stored.specs.declared.Layout.TheVariants.{First}
-use Rattle.stored.specs.declared.Read.{Read}
+use Rattle.stored.specs.Told.{Read}
 use Rattle.stored.proofs.IsForm.{is-form, first_none, first_tells}
 use Rattle.stored.proofs.UpTo.{up_to_low, up_to_high}
 use Rattle.stored.proofs.Back.{cut, reads_back}

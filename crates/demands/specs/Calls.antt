@@ -12,7 +12,7 @@ use Rattle.listing.specs.Listing.{Listed}
 use Rattle.totals.specs.Totals.{Totalled}
 use Rattle.stored.specs.Answers.{ReadsBy, Reads, Writes}
 use Rattle.stored.specs.declared.Layout.TheVariants.{First}
-use Rattle.stored.specs.declared.Read.{Read}
+use Rattle.stored.specs.Told.{Read}
 use Rattle.pla.specs.Answers.{ReadsPla, WritesPla}
 use Rattle.times.specs.Texts.{Readable}
 use Rattle.times.specs.Places.{ReadsAs}

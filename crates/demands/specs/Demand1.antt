@@ -6,7 +6,7 @@ use Rattle.sheet.specs.Record.{sheet_of, opened}
 use Rattle.sheet.specs.Answers.{open_of, open_under_of}
 use Rattle.stored.specs.Answers.{ReadsBy}
 use Rattle.stored.specs.declared.Layout.{Layout}
-use Rattle.stored.specs.declared.Read.{Read}
+use Rattle.stored.specs.Told.{Read}
 use Rattle.pla.specs.Answers.{ReadsPla}
 use Rattle.demands.specs.Calls.{Told, Lent, Made}
 

@@ -21,7 +21,7 @@ use Rattle.stored.specs.Fields.{Bytes, good, ReadingBy, Reading}
 use Rattle.stored.specs.Answers.{ReadsBy}
 use Rattle.stored.specs.declared.Layout.{Layout}
 use Rattle.stored.specs.declared.Layout.TheVariants.{First}
-use Rattle.stored.specs.declared.Read.{Read}
+use Rattle.stored.specs.Told.{Read}
 use Rattle.pla.specs.Reading.{PlaSays}
 use Rattle.pla.specs.Answers.{ReadsPla}
 use Rattle.histories.specs.Histories.{number_of, after, after_all, numbers_of, sheet_after, number_given, Given}

@@ -13,7 +13,7 @@ use Rattle.sheet.specs.Told.{Value}
 use Rattle.listing.specs.Listing.{Listed}
 use Rattle.stored.specs.Fields.{good}
 use Rattle.stored.specs.Form.{form}
-use Rattle.stored.specs.declared.Read.{Read}
+use Rattle.stored.specs.Told.{Read}
 use Rattle.pla.specs.Texts.{lines_of}
 use Rattle.pla.specs.Sayings.{cube, Says}
 use Rattle.pla.specs.Reading.{PlaSays, Drawn}

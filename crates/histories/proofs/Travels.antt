@@ -19,7 +19,7 @@ use Rattle.stored.specs.Fields.{Bytes, good, ReadingBy, Reading}
 use Rattle.stored.specs.declared.Layout.{Layout}
 use Rattle.stored.specs.declared.Layout.TheVariants.{Today}
 use Rattle.stored.specs.Form.{form}
-use Rattle.stored.specs.declared.Read.{Read}
+use Rattle.stored.specs.Told.{Read}
 use Rattle.stored.proofs.IsForm.{Storable, is-form}
 use Rattle.stored.proofs.Trips.{form-same, told_agrees, read_good, travels}
 use Rattle.histories.specs.Histories.{Good, after_all, numbers_of}

@@ -9,7 +9,7 @@ use Rattle.changes.specs.declared.Call.{Call}
 use Rattle.changes.specs.Calls.{did_of}
 use Rattle.stored.specs.Answers.{Reads, Writes}
 use Rattle.stored.specs.Form.{form}
-use Rattle.stored.specs.declared.Read.{Read}
+use Rattle.stored.specs.Told.{Read}
 use Rattle.histories.specs.Histories.{number_of, after}
 
 -- a call that changes the sheet, or a journey through the lent bytes `out`

@@ -21,7 +21,7 @@ use Rattle.sheet.specs.Told.{Value}
 use Rattle.stored.specs.Answers.{read_of, ReadsBy, Reads, Writes}
 use Rattle.stored.specs.declared.Layout.{Layout}
 use Rattle.stored.specs.Fields.{Outcome, good, refused}
-use Rattle.stored.specs.declared.Read.{Read}
+use Rattle.stored.specs.Told.{Read}
 use Rattle.stored.proofs.Trips.{read_sound}
 use Rattle.lent.specs.declared.Reply.{Reply}
 use Rattle.lent.specs.declared.Wanted.{Wanted}

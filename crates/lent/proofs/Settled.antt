@@ -7,7 +7,7 @@ use Rattle.sheet.specs.declared.Sheet.{Sheet}
 use Rattle.sheet.specs.Told.{Answer}
 use Rattle.sheet.specs.Told.{Value}
 use Rattle.stored.specs.Answers.{Reads}
-use Rattle.stored.specs.declared.Read.{Read}
+use Rattle.stored.specs.Told.{Read}
 use Rattle.stored.proofs.Settled.{reads_settled, writes_settled}
 use Rattle.lent.specs.declared.Reply.{Reply}
 use Rattle.lent.specs.Entries.{valued, HoldsBy, HoldsNoneBy, Put, ChangesBy, TellsAs, Lends}

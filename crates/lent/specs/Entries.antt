@@ -9,7 +9,7 @@ use Rattle.sheet.specs.declared.Sheet.{Sheet}
 use Rattle.sheet.specs.Told.{Answer}
 use Rattle.sheet.specs.Told.{Value}
 use Rattle.stored.specs.Answers.{Reads, Writes}
-use Rattle.stored.specs.declared.Read.{Read}
+use Rattle.stored.specs.Told.{Read}
 use Rattle.checking.specs.Answers.{Checked, verdict_of}
 use Rattle.checking.specs.declared.Verdict.{Verdict}
 use Rattle.lent.specs.declared.Reply.{Reply}

@@ -11,7 +11,7 @@ use Rattle.sheet.specs.Sound.{record_of}
 use Rattle.sheet.specs.declared.Sheet.{Sheet}
 use Rattle.sheet.specs.Told.{Value}
 use Rattle.stored.specs.Answers.{read_of}
-use Rattle.stored.specs.declared.Read.{Read}
+use Rattle.stored.specs.Told.{Read}
 use Rattle.stored.proofs.Settled.{read_by_settled}
 use Rattle.pla.specs.Writing.{pla_text}
 use Rattle.pla.specs.Answers.{ReadsPla, WritesPla, spoiled, short, written}

@@ -6,7 +6,7 @@ use Rattle.boxes.proofs.Sums.{sum-zero, sum_ext}
 use Rattle.sheet.specs.Record.{Record}
 use Rattle.sheet.specs.Sound.{Ready}
 use Rattle.stored.specs.Fields.{good}
-use Rattle.stored.specs.declared.Read.{Read}
+use Rattle.stored.specs.Told.{Read}
 use Rattle.stored.proofs.Groups.{none_ok, none_obeys}
 use Rattle.stored.proofs.IsForm.{Storable}
 use Rattle.stored.proofs.Trips.{read_by_sound}

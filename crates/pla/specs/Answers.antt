@@ -6,7 +6,7 @@ use Rattle.sheet.specs.Sound.{ClassReady, record_of}
 use Rattle.sheet.specs.declared.Sheet.{Sheet}
 use Rattle.sheet.specs.Told.{Value}
 use Rattle.stored.specs.Answers.{ReadBy}
-use Rattle.stored.specs.declared.Read.{Read}
+use Rattle.stored.specs.Told.{Read}
 use Rattle.pla.specs.Reading.{PlaSays}
 use Rattle.pla.specs.Writing.{pla_text}
 

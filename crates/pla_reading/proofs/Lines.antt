@@ -12,7 +12,7 @@ use Rattle.ground.proofs.Cases.{below_or}
 use Rattle.sheet.specs.Limits.{most_marks, entries}
 use Rattle.stored.specs.Fields.{Outcome, refused}
 use Rattle.stored.specs.Answers.{read_of}
-use Rattle.stored.specs.declared.Read.{Read}
+use Rattle.stored.specs.Told.{Read}
 use Rattle.pla.specs.Texts.{between_from, before_comment, filled, lines_of, words_of}
 use Rattle.pla.specs.Sayings.{Saying, blank, inputs, output, count, cube, end, Says, no_word, dot_i, dot_o, dot_p, drawn, dot_e}
 use Rattle.pla.specs.Reading.{Said as Saids, nothing_said, comes_to, Run, over, unreadable, stopped, taken, PlaSays}

@@ -5,7 +5,7 @@ use Rattle.sets.specs.Sets.{has}
 use Rattle.sheet.specs.Limits.{most_marks, entries}
 use Rattle.stored.specs.Fields.{refused}
 use Rattle.stored.specs.Answers.{read_of}
-use Rattle.stored.specs.declared.Read.{Read}
+use Rattle.stored.specs.Told.{Read}
 use Rattle.pla.specs.Sayings.{Saying, blank, inputs, output, count, cube, end}
 use Rattle.pla.specs.Reading.{Count, uncounted, counted, Said as Saids, comes_to, on, stop, judge}
 use Rattle.pla_lines.specs.Parts.{capped}

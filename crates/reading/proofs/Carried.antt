@@ -1,119 +1,127 @@
 -- The groups behind the sections: how the run goes over a group, from one to the next, and over the count in front of them; a profile is read where it is
 -- complete and obeyed.
-use Prim.Native.Nat.{ℕ, ◌^◌, ◌≤◌, ◌<◌}
-use mathlib.Core.Path.{◌≡◌, refl, sym, ap, ◌∙◌}
-use mathlib.Core.Bool.{true, false}
-use mathlib.Core.List.{List, []}
-use native.Mathlib.Omega.{arith}
-use lib.ListN.{length, drop, drop_of_length-le}
-use lib.Seq.{drop-cons}
+use Rattle.std.proofs.Common.{◌≡◌, ◌∙◌, ℕ, zero, suc, ◌-◌, ◌^◌, ◌<◌, refl, sym, ap, true, false, List, [], ◌∷◌, length, arith}
+use native.Mathlib.Numerals.{sub-one}
 use borrow.Author.Tests.{ne_eqb, lt-ltb, ltb-true}
-use Rattle.ground.proofs.Cases.{clash, same_or}
+use Rattle.ground.proofs.Cases.{same_or}
 use Rattle.tables.specs.Tables.{entry}
 use Rattle.profiles.specs.Profiles.{may_follow, followed, breaks, count_ok}
 use Rattle.profiles.specs.declared.Profile.{Profile}
 use Rattle.profiles.specs.declared.Profile.TheVariants.{None}
-use Rattle.profiles.proofs.Named.{count_or}
+use Rattle.refusals.specs.declared.Refusal.{Refusal}
+use Rattle.refusals.specs.declared.Refusal.TheVariants.{Unreadable}
 use Rattle.sheet.specs.Limits.{most_marks}
 use Rattle.sheet.specs.Record.{Record, with_profile, Obeys}
-use Rattle.stored.specs.Fields.{Next, due, groups, group, perhaps, complete, end, groups_due, judge, Outcome, refused, Run, done, without, with, broken, obeyed}
-use Rattle.sections.specs.Parts.{FieldRead, Leads}
-use Rattle.reading.specs.Parts.{Carried, bad, good, With, GroupsRead, Covered, ProfileBefore, ProfileRead}
-use Rattle.sections.specs.declared.fields.Field.{Field}
-use Rattle.reading.specs.declared.groups.Groups.{Groups}
-use Rattle.sections.proofs.Offsets.{then, then-run, field_number, field_taken, field_wrong, field_barred}
-
-module _ {t : List ℕ} {R : Record → Type 0} {from to : Record → Next} {start : ℕ} {g : Groups} where
-  -- groups that are refused at a place, and those that are read
-  pub carried_stopped : (place : ℕ) → (g.good ≡ false) × (g.at ≡ place) → ((r : Record) → R r → Run most_marks (from r) start (drop start t) (refused 10 place))
-      → Carried t R from to start g
-  carried_stopped place e w = bad {g = g} e.0 (λ r x. rw e.1 (w r x))
-
-  pub carried_made : (place : ℕ) (p : Profile) → (g.good ≡ true) × (g.at ≡ place) × (g.profile ≡ p) → place ≤ length t
-      → ((r : Record) → R r → Leads t (from r) start (to (with_profile p r)) place) → Carried t R from to start g
-  carried_made place p e h l = good {g = g} e.0 (omega (arith, e.1)) (λ r x. rw (e.1, e.2) (l r x))
-
-  pub carried_inside : Carried t R from to start g → g.good ≡ true → g.at ≤ length t
-  carried_inside (bad e w) y = clash y e
-  carried_inside (good e h l) y = h
-
-  pub carried_run : Carried t R from to start g → g.good ≡ false → (r : Record) → R r → Run most_marks (from r) start (drop start t) (refused 10 g.at)
-  carried_run (bad e w) n = w
-  carried_run (good e h l) n = clash e n
-
-  pub carried_leads : Carried t R from to start g → g.good ≡ true → (r : Record) → R r → Leads t (from r) start (to (with_profile g.profile r)) g.at
-  carried_leads (bad e w) y = clash y e
-  carried_leads (good e h l) y = l
-
-  -- those that are refused, whatever they were to lead to
-  pub carried_bad : {beyond : Record → Next} → Carried t R from to start g → g.good ≡ false → Carried t R from beyond start g
-  carried_bad x n = bad n (carried_run x n)
-
-  -- those behind what leads to them
-  pub carried_after : {S : Record → Type 0} {before : Record → Next} {at : ℕ} → ((r : Record) → S r → R r × Leads t (before r) at (from r) start)
-      → Carried t R from to start g → Carried t S before to at g
-  carried_after l (bad e w) = bad e (λ r x. then-run (l r x).1 (w r (l r x).0))
-  carried_after l (good e h m) = good e h (λ r x. then (l r x).1 (m r (l r x).0))
-
-  -- more of them behind those that were read
-  pub carried_then : {S : Record → Type 0} {beyond : Record → Next} {h : Groups} → Carried t R from to start g → g.good ≡ true → ((r : Record) → R r → S (with_profile g.profile r))
-      → Carried t S to beyond g.at h → Carried t R from beyond start h
-  carried_then x y s (bad e w) = bad e (λ r b. then-run (carried_leads x y r b) (w _ (s r b)))
-  carried_then x y s (good e i m) = good e i (λ r b. then (carried_leads x y r b) (m _ (s r b)))
+use Rattle.stored.specs.Fields.{due, groups, group, perhaps, complete, end, groups_due, judge, Outcome, Run, done, without, with, broken, obeyed}
+use Rattle.sections.specs.Places.{offset_of, Fits, Faulty}
+use Rattle.sections.specs.Parts.{Leads, Stops}
+use Rattle.sections.specs.declared.fields.Form.{Form}
+use Rattle.sections.proofs.Offsets.{start as at_start, then, then_stops, field_taken, field_missed, field_barred}
+use Rattle.reading.specs.Parts.{Carried, Dropped, With, Covered, ProfileBefore}
 
 -- where the bytes end there is no profile, and elsewhere its count is due
-module _ (t : List ℕ) (r : Record) (at : ℕ) where
-  perhaps_some : at < length t → Leads t (perhaps r) at (due (groups r at)) at
-  perhaps_some h = record { on = λ o x. rw (drop-cons t at 0 h) (with (rw (drop-cons t at 0 h) at x)) }
+module _ (r : Record) where
+  some_left : (at : ℕ) (l : List ℕ) (o : Outcome) → 0 < length l → Run most_marks (due (groups r at)) at l o → Run most_marks (perhaps r) at l o
+  some_left at [] o h x = absurd (omega arith)
+  some_left at (b ∷ l) o h x = with x
 
-  perhaps_none : length t ≤ at → r.profile ≡ None → Leads t (perhaps r) at (end (with_profile None r)) at
-  perhaps_none h e = record { on = λ o x. rw (drop_of_length-le t h) (nothing_more (rw (drop_of_length-le t h, ← e) at x)) }
-    where
-      nothing_more : {o : Outcome} → Run most_marks (end r) at [] o → Run most_marks (perhaps r) at [] o
-      nothing_more done = without
+  nothing_more : (at : ℕ) (o : Outcome) → Run most_marks (end r) at [] o → Run most_marks (perhaps r) at [] o
+  nothing_more at _ done = without
+
+  none_left : (at : ℕ) (l : List ℕ) (o : Outcome) → length l ≡ 0 → Run most_marks (end r) at l o → Run most_marks (perhaps r) at l o
+  none_left at [] o e x = nothing_more at o x
+  none_left at (b ∷ l) o e x = absurd (omega arith)
+
+  perhaps_some : (f : Form) → 0 < length f.rest.now → Leads (perhaps r) f (due (groups r (offset_of f))) f
+  perhaps_some f h = record { on = λ o x. some_left (offset_of f) f.rest.now o h x }
+
+  perhaps_none : (f : Form) → length f.rest.now ≡ 0 → r.profile ≡ None → Leads (perhaps r) f (end (with_profile None r)) f
+  perhaps_none f h e = record { on = λ o x. none_left (offset_of f) f.rest.now o h (rw (← e) at x) }
 
 -- a group
-module _ {t : List ℕ} {at m : ℕ} {p : Profile} {f : Field} {r : Record} (start left : ℕ) (b : With m p r) (v : FieldRead t at 1 0 255 f) where
+module _ {m : ℕ} {p : Profile} {r : Record} (start left : ℕ) (b : With m p r) where
   follows : (g : ℕ) → may_follow r.marks r.profile g ≡ may_follow m p g
   follows g = rw (b.marks, b.profile)
 
-  pub group_taken : f.good ≡ true → may_follow m p f.number ≡ true
-      → Leads t (due (group r start left)) at (groups_due (with_profile (followed p f.number) r) start left) f.at
+  group_taken : {f h : Form} {g : ℕ} → Fits f 1 0 255 h g → may_follow m p g ≡ true
+      → Leads (due (group r start left)) f (groups_due (with_profile (followed p g) r) start left) h
   unfolding judge
-  group_taken y may = field_taken (group r start left) refl v y (groups_due (with_profile (followed p f.number) r) start left) (rw (follows f.number ∙ may, b.profile))
+  group_taken {f} {h} {g} v may = field_taken (group r start left) refl f v (groups_due (with_profile (followed p g) r) start left) (rw (follows g ∙ may, b.profile))
 
-  pub group_barred : f.good ≡ true → may_follow m p f.number ≡ false → Run most_marks (due (group r start left)) at (drop at t) (refused 10 at)
+  group_barred : {f h : Form} {g : ℕ} → Fits f 1 0 255 h g → may_follow m p g ≡ false → Stops (due (group r start left)) f (Unreadable (offset_of f))
   unfolding judge
-  group_barred y bar = field_barred (group r start left) refl v y (rw (follows f.number ∙ bar))
+  group_barred {f} {h} {g} v bar = field_barred (group r start left) refl f v (rw (follows g ∙ bar))
 
-  pub group_early : f.good ≡ false → at ≤ length t → Run most_marks (due (group r start left)) at (drop at t) (refused 10 f.at)
-  group_early n l = field_wrong (group r start left) refl v n l (λ x small never. absurd (never (omega arith) (omega arith)))
+  group_missed : {f : Form} {e : Refusal} → Faulty f 1 0 255 e → Stops (due (group r start left)) f e
+  group_missed {f} w = field_missed (group r start left) refl f w (λ x small never. absurd (never (omega arith) (omega arith)))
 
--- n groups, which are one or two
-module _ {t : List ℕ} {m n at : ℕ} {g : Groups} where
-  pub groups_one : n ≡ 1 → GroupsRead t m 1 at g → GroupsRead t m n at g
-  groups_one e x = rw e x
+module _ {m : ℕ} {p : Profile} {f h : Form} {g : ℕ} (v : Fits f 1 0 255 h g) (start left : ℕ) where
+  pub group_carried : may_follow m p g ≡ true → Carried (With m p) (λ (r : Record). due (group r start left)) (λ (r : Record). groups_due r start left) f h (followed p g)
+  group_carried may = record { leads = λ r b. group_taken start left b v may }
 
-  pub groups_two : count_ok n ≡ true → (n ≡ 1 → ⊥) → GroupsRead t m 2 at g → GroupsRead t m n at g
-  groups_two ok never x = count_or n ok (λ e. absurd (never e)) (λ e. rw e x)
+  pub group_dropped : may_follow m p g ≡ false → Dropped (With m p) (λ (r : Record). due (group r start left)) f (Unreadable (offset_of f))
+  group_dropped bar = record { stops = λ r b. group_barred start left b v bar }
+
+pub group_faulty : {m : ℕ} {p : Profile} {f : Form} {e : Refusal} → Faulty f 1 0 255 e → (start left : ℕ)
+    → Dropped (With m p) (λ (r : Record). due (group r start left)) f e
+group_faulty w start left = record { stops = λ r b. group_missed start left b w }
+
+-- one group after another, `left` of n
+
+groups_some : (r : Record) (start left : ℕ) → 0 < left → groups_due r start left ≡ due (group r start (left - 1))
+groups_some r start zero h = absurd (omega arith)
+groups_some r start (suc k) h = ap (λ (j : ℕ). due (group r start j)) (sym (sub-one (suc k)))
+
+groups_end : (r : Record) (start left : ℕ) → left ≡ 0 → groups_due r start left ≡ complete r start
+groups_end r start zero e = refl
+groups_end r start (suc k) e = absurd (omega arith)
+
+pub record GroupsReached (m n : ℕ) (f g : Form) (p : Profile) (left : ℕ) : Type 0 where
+  pub carried : (start : ℕ) → Carried (With m None) (λ (r : Record). groups_due r start n) (λ (r : Record). groups_due r start left) f g p
+
+pub groups_none : (m n : ℕ) (f : Form) → GroupsReached m n f f None n
+groups_none m n f = record {
+  carried = λ start. record { leads = λ r b. rw (← b.profile) (at_start (groups_due r start n) f) };
+}
+
+module _ {m n : ℕ} {f g : Form} {p : Profile} {left : ℕ} (v : GroupsReached m n f g p left) where
+  pub groups_done : left ≡ 0 → (start : ℕ) → Carried (With m None) (λ (r : Record). groups_due r start n) (λ (r : Record). complete r start) f g p
+  groups_done e start = record { leads = λ r b. rw (← groups_end (with_profile p r) start left e) ((v.carried start).leads r b) }
+
+  module _ (some : 0 < left) where
+    pub groups_more : {h : Form} {q : Profile}
+        → ((start left : ℕ) → Carried (With m p) (λ (r : Record). due (group r start left)) (λ (r : Record). groups_due r start left) g h q)
+        → GroupsReached m n f h q (left - 1)
+    groups_more {h} {q} w = record {
+      carried = λ start. record {
+        leads = λ r b.
+            then ((v.carried start).leads r b)
+            (rw (groups_some (with_profile p r) start left some) ((w start (left - 1)).leads (with_profile p r) (record { marks = b.marks; profile = refl })));
+      };
+    }
+
+    pub groups_dropped : {e : Refusal} → ((start left : ℕ) → Dropped (With m p) (λ (r : Record). due (group r start left)) g e)
+        → (start : ℕ) → Dropped (With m None) (λ (r : Record). groups_due r start n) f e
+    groups_dropped w start = record {
+      stops = λ r b.
+          then_stops ((v.carried start).leads r b)
+          (rw (groups_some (with_profile p r) start left some) ((w start (left - 1)).stops (with_profile p r) (record { marks = b.marks; profile = refl })));
+    }
 
 -- the count in front of them
-module _ {t : List ℕ} {at : ℕ} {f : Field} (v : FieldRead t at 2 1 2 f) where
-  pub groups_counted : f.good ≡ true → count_ok f.number ≡ true
-  unfolding count_ok
-  groups_counted y =
-      let n = field_number v y in
-      same_or f.number 1 (λ e. rw e) (λ q. let e : f.number ≡ 2 = omega arith in rw e)
-
-  pub profile_counted : (r : Record) → at < length t → f.good ≡ true → Leads t (perhaps r) at (groups_due r at f.number) f.at
-  unfolding judge
-  profile_counted r l y = then (perhaps_some t r at l) (field_taken (groups r at) refl v y (groups_due r at f.number) (rw (groups_counted y)))
-
-  pub profile_uncounted : (r : Record) → at < length t → f.good ≡ false → Run most_marks (perhaps r) at (drop at t) (refused 10 f.at)
+module _ {f : Form} (r : Record) (some : 0 < length f.rest.now) where
+  counted : {g : Form} {n : ℕ} → Fits f 2 1 2 g n → Leads (perhaps r) f (groups_due r (offset_of f) n) g
   unfolding judge count_ok
-  profile_uncounted r l n =
-      then-run (perhaps_some t r at l)
-      (field_wrong (groups r at) refl v n (omega arith)
+  counted {g} {n} v =
+      let two : (n ≡ 1 → ⊥) → n ≡ 2 = λ q. omega (arith, v.least, v.most) in
+      then (perhaps_some r f some)
+      (field_taken (groups r (offset_of f)) refl f v (groups_due r (offset_of f) n) (same_or n 1 (λ e. rw e) (λ q. rw (two q))))
+
+  uncounted : {e : Refusal} → Faulty f 2 1 2 e → Stops (perhaps r) f e
+  unfolding judge count_ok
+  uncounted w =
+      then_stops (perhaps_some r f some)
+      (field_missed (groups r (offset_of f)) refl f w
       (λ x small never. rw (ne_eqb x 1 (λ e. never (omega arith) (omega arith)), ne_eqb x 2 (λ e. never (omega arith) (omega arith)))))
 
 -- whether the record that was read obeys them
@@ -130,15 +138,28 @@ module _ {m : ℕ} {eithers : List ℕ} {r : Record} (b : ProfileBefore m either
   obeys_told o c l x =
       ltb-true 0 (entry eithers c) (sym (b.told c l) ∙ o c (omega (arith, same_size)) (ap (λ (k : ℕ). breaks k p c) b.plain.marks ∙ x))
 
-module _ {t : List ℕ} {m at : ℕ} {eithers : List ℕ} where
-  pub profile_none : {g : Groups} → length t ≤ at → at ≤ length t → (g.good ≡ true) × (g.at ≡ at) × (g.profile ≡ None) → ProfileRead t m eithers at g
-  profile_none {g} h l e = carried_made {g = g} at None e l (λ r b. perhaps_none t r at h b.plain.profile)
+module _ {m : ℕ} {eithers : List ℕ} {f : Form} where
+  pub profile_none : length f.rest.now ≡ 0 → Carried (ProfileBefore m eithers) perhaps end f f None
+  profile_none h = record { leads = λ r b. perhaps_none r f h b.plain.profile }
 
-  module _ {g : Groups} (x : Carried t (ProfileBefore m eithers) perhaps (λ (r : Record). complete r at) at g) (y : g.good ≡ true) where
-    pub profile_obeyed : Covered m g.profile eithers → ProfileRead t m eithers at g
-    profile_obeyed h =
-        good {g = g} y (carried_inside x y) (λ r b. then (carried_leads x y r b) (record { on = λ o w. obeyed (told_obeys b g.profile h) w }))
+  module _ (some : 0 < length f.rest.now) where
+    pub profile_uncounted : {e : Refusal} → Faulty f 2 1 2 e → Dropped (ProfileBefore m eithers) perhaps f e
+    profile_uncounted w = record { stops = λ r b. uncounted r some w }
 
-    pub profile_broken : {s : Groups} → (Covered m g.profile eithers → ⊥) → (s.good ≡ false) × (s.at ≡ at) → ProfileRead t m eithers at s
-    profile_broken {s} never e =
-        carried_stopped {g = s} at e (λ r b. then-run (carried_leads x y r b) (broken (λ o. never (obeys_told b g.profile o))))
+    module _ {g : Form} {n : ℕ} (v : Fits f 2 1 2 g n) where
+      pub profile_dropped : {e : Refusal} → ((start : ℕ) → Dropped (With m None) (λ (r : Record). groups_due r start n) g e)
+          → Dropped (ProfileBefore m eithers) perhaps f e
+      profile_dropped w = record { stops = λ r b. then_stops (counted r some v) ((w (offset_of f)).stops r b.plain) }
+
+      module _ {h : Form} {p : Profile}
+          (w : (start : ℕ) → Carried (With m None) (λ (r : Record). groups_due r start n) (λ (r : Record). complete r start) g h p) where
+        to_complete : (r : Record) → ProfileBefore m eithers r → Leads (perhaps r) f (complete (with_profile p r) (offset_of f)) h
+        to_complete r b = then (counted r some v) ((w (offset_of f)).leads r b.plain)
+
+        pub profile_obeyed : Covered m p eithers → Carried (ProfileBefore m eithers) perhaps end f h p
+        profile_obeyed c = record { leads = λ r b. then (to_complete r b) (record { on = λ o x. obeyed (told_obeys b p c) x }) }
+
+        pub profile_broken : (Covered m p eithers → ⊥) → Dropped (ProfileBefore m eithers) perhaps f (Unreadable (offset_of f))
+        profile_broken never = record {
+          stops = λ r b. then_stops (to_complete r b) (record { run = broken (λ o. never (obeys_told b p o)) });
+        }

@@ -1,13 +1,9 @@
 -- The marks in front of the sections, the record that the sections and the profile give, whichever layout, and the sheet that is worked out from what was read.
-use Prim.Native.Nat.{ℕ, ◌^◌, ◌≤◌, ◌<◌}
-use mathlib.Core.Path.{◌≡◌, refl, sym, ap, ◌∙◌, subst}
-use mathlib.Core.Bool.{Bool, true, false, not, cond, ◌&&◌}
-use mathlib.Core.List.{List}
-use native.Mathlib.Omega.{arith}
+use Rattle.std.proofs.Common.{◌≡◌, ◌∙◌, ℕ, ◌^◌, ◌≤◌, ◌<◌, refl, sym, ap, subst, Bool, true, false, not, cond, ◌&&◌, List, length, arith}
+use Rattle.std.specs.Prelude.{Result, Ok, Err, IsErrAnd}
 use lib.Dec.{eqb, ltb}
-use lib.ListN.{length, get_or, drop}
 use borrow.Author.Tests.{lt-ltb, eq-eqb, ne_eqb}
-use Rattle.ground.proofs.Cases.{mark, same_or, clash}
+use Rattle.ground.proofs.Cases.{mark, same_or}
 use Rattle.boxes.specs.Sums.{only}
 use Rattle.boxes.proofs.Boxes.{sum_in-all}
 use Rattle.boxes.proofs.Sums.{sum-zero, sum_ext, only-le}
@@ -16,28 +12,32 @@ use Rattle.profiles.specs.declared.Profile.{Profile}
 use Rattle.classes.specs.Standings.{is_in, is_either, outs, eithers}
 use Rattle.classes.specs.declared.Standing.{Standing}
 use Rattle.classes.specs.declared.Standing.TheVariants as standing
+use Rattle.refusals.specs.Numbers.{number_of, place_of}
+use Rattle.refusals.specs.declared.Refusal.{Refusal}
+use Rattle.refusals.specs.declared.Refusal.TheVariants.{Marks}
 use Rattle.sheet.specs.Limits.{most_marks, entries, marks_ok}
 use Rattle.sheet.specs.Record.{Record, with_profile, opened, sheet_from}
+use Rattle.sheet.specs.Answers.{refused as refused_sheet}
 use Rattle.sheet.specs.Parts.{Addable}
+use Rattle.sheet.specs.declared.Refused.{Refused}
 use Rattle.sheet.specs.declared.Sheet.{Sheet}
 use Rattle.sheet.proofs.Opening.{sheet_same, ones_addable, combinations_fit}
 use Rattle.stored.specs.declared.Layout.{Layout}
 use Rattle.stored.specs.declared.Layout.TheVariants.{First, Today}
-use Rattle.stored.specs.declared.Read.{Read}
 use Rattle.stored.specs.declared.Section.TheVariants.{Class, Either, Held}
 use Rattle.stored.specs.Sections.{Rest, nothing, profile, more, sections}
-use Rattle.stored.specs.Fields.{Bytes, due, marks, count, end, rest_due, judge, good, refused, Run, ReadingBy}
+use Rattle.stored.specs.Fields.{Bytes, due, marks, count, end, rest_due, judge, Outcome, good, refused, Run, faulty, ReadingBy}
 use Rattle.stored.specs.Answers.{read_of, ReadsBy}
+use Rattle.stored.specs.Told.{read_as}
 use Rattle.stored.specs.Parts.{Neither}
 use Rattle.stored.proofs.IsForm.{is-form}
-use Rattle.sections.specs.Parts.{Leads, with_own, ReadBefore}
-use Rattle.reading.specs.Parts.{EitherRead, ProfileBefore, EndRead}
-use Rattle.reading.specs.declared.groups.Groups.{Groups}
-use Rattle.sections.specs.declared.Part.{Part}
-use Rattle.sections.proofs.Offsets.{start as at_start, number_first, leads_field, faulty_at}
+use Rattle.stored.proofs.Told.{refused_told}
+use Rattle.sections.specs.Places.{offset_of, Fits, Faulty}
+use Rattle.sections.specs.Parts.{Leads, Stops, with_own, ReadBefore}
+use Rattle.sections.specs.declared.fields.Form.{Form}
+use Rattle.sections.proofs.Offsets.{start as at_start, field_taken, field_missed}
 use Rattle.sections.proofs.Own.{own_start}
-use Rattle.sections.proofs.Entries.{part_bad, part_good}
-use Rattle.reading.proofs.Carried.{carried_run, carried_leads}
+use Rattle.reading.specs.Parts.{NoneRead, EitherFound, EitherMissed, ProfileBefore, EndFound, EndMissed}
 
 -- what follows behind the held section, and behind the class
 abbrev pub behind_held : Layout → Rest
@@ -52,20 +52,41 @@ class_first : (layout : Layout) → sections layout ≡ more Class (behind_class
 class_first First = refl
 class_first Today = refl
 
-module _ (layout : Layout) (t : List ℕ) where
-  pub refusal_read : (n p : ℕ) {a : Read} → a ≡ read_of entries (refused n p) → ReadingBy layout most_marks t (refused n p) → ReadsBy layout most_marks entries t a
-  refusal_read n p e r = record { outcome = refused n p; run = r; is = e }
+-- all of a form, from its beginning
+pub record Begun (t : List ℕ) (f : Form) : Type 0 where
+  pub size : f.size ≡ length t
+  pub rest : f.rest.now ≡ t
 
-  module _ (m : ℕ) (h : 0 < length t) (e : m ≡ get_or t 0 0) where
-    pub marks_taken : marks_ok most_marks m ≡ true → Leads t (due (marks (sections layout))) 0 (due (count Class (behind_class layout) (opened m))) 1
+module _ (layout : Layout) {t : List ℕ} {f : Form} (b : Begun t f) where
+  at_front : offset_of f ≡ 0
+  at_front = omega (arith, b.size, ap length b.rest)
+
+  pub run_read : (o : Outcome) → Run most_marks (due (marks (sections layout))) (offset_of f) f.rest.now o → ReadingBy layout most_marks t o
+  run_read o r = rw (← b.rest, ← at_front) r
+
+  -- what a `?` passes on, the run having stopped there
+  pub refusal_read : (result : Result Sheet Refused) (e : Refusal) → IsErrAnd result (λ r. r ≡ refused_sheet entries e)
+      → Stops (due (marks (sections layout))) f e → ReadsBy layout most_marks entries t (read_as result)
+  refusal_read (Ok s) e p w = absurd p
+  refusal_read (Err r) e p w = record {
+    outcome = refused (number_of e) (place_of e);
+    run = run_read (refused (number_of e) (place_of e)) w.run;
+    is = ap (λ (x : Refused). read_as (Err x)) p ∙ refused_told entries e;
+  }
+
+  pub marks_missed : {e : Refusal} → Faulty f 1 0 255 e → Stops (due (marks (sections layout))) f e
+  marks_missed w = field_missed (marks (sections layout)) refl f w (λ x small never. absurd (never (omega arith) (omega arith)))
+
+  module _ {g : Form} {m : ℕ} (v : Fits f 1 0 255 g m) where
+    pub marks_taken : marks_ok most_marks m ≡ true → Leads (due (marks (sections layout))) f (due (count Class (behind_class layout) (opened m))) g
     unfolding judge
     marks_taken ok =
-        leads_field t (marks (sections layout)) 0 (due (count Class (behind_class layout) (opened m))) (omega arith)
-        (rw (number_first t 0 h, ← e, ok) (ap (λ (rest : Rest). rest_due rest (opened m)) (class_first layout)))
+        field_taken (marks (sections layout)) refl f v (due (count Class (behind_class layout) (opened m)))
+        (rw ok (ap (λ (rest : Rest). rest_due rest (opened m)) (class_first layout)))
 
-    pub marks_wrong : marks_ok most_marks m ≡ false → ReadingBy layout most_marks t (refused 1 0)
+    pub marks_wrong : marks_ok most_marks m ≡ false → Stops (due (marks (sections layout))) f Marks
     unfolding judge
-    marks_wrong bad = faulty_at t (marks (sections layout)) 0 1 (omega arith) (rw (number_first t 0 h, ← e, bad))
+    marks_wrong bad = record { run = rw at_front (subst (λ (p : ℕ). Run most_marks (due (marks (sections layout))) p f.rest.now (refused 1 p)) at_front (faulty v.inside (rw (← v.number, bad)))) }
 
 -- what was read up to the either section, up to the held one, up to the profile, and in all
 abbrev pub class_read : ℕ → List ℕ → Record
@@ -126,42 +147,38 @@ module _ (m : ℕ) (ins : List ℕ) where
   before_profile either times = record { plain = record { marks = refl; profile = refl }; told = either_told either }
 
 -- the either section, which 01's layout has not
-pub record EitherGot (t : List ℕ) (layout : Layout) (m : ℕ) (ins : List ℕ) (start : ℕ) (own : List ℕ) (at : ℕ) : Type 0 where
-  pub inside : at ≤ length t
+pub record EitherGot (layout : Layout) (m : ℕ) (ins : List ℕ) (f g : Form) (own : List ℕ) : Type 0 where
   pub long : 2 ^ m ≤ length own
   pub ones : (c : ℕ) → c < 2 ^ m → entry own c ≤ 1
-  pub leads : Leads t (rest_due (behind_class layout) (class_read m ins)) start (due (count Held (behind_held layout) (standings_read m ins own))) at
+  pub leads : Leads (rest_due (behind_class layout) (class_read m ins)) f (due (count Held (behind_held layout) (standings_read m ins own))) g
 
-module _ (t : List ℕ) (m : ℕ) (ins : List ℕ) (start : ℕ) (p : Part) where
-  pub either_bad : (layout : Layout) → EitherRead t layout m ins start p → p.good ≡ false
-      → Run most_marks (rest_due (behind_class layout) (class_read m ins)) start (drop start t) (refused 10 p.at)
-  either_bad First x g = clash x.0 g
-  either_bad Today x g = part_bad x g (more Held profile) (class_read m ins) (before_either m ins)
+pub none_found : {m : ℕ} {ins : List ℕ} {f g : Form} {own : List ℕ} → NoneRead m f g own → EitherGot First m ins f g own
+none_found {m} {ins} {f} {g} {own} x =
+    let same : class_read m ins ≡ standings_read m ins own = sym (own_start (entry own) {r = class_read m ins} x.none Either (before_either m ins).none) in
+    record {
+      long = x.long;
+      ones = λ c l. omega (arith, x.none c l);
+      leads = rw (x.stays, ← same) (at_start (rest_due (behind_class First) (class_read m ins)) f);
+    }
 
-  pub either_good : (layout : Layout) → start ≤ length t → EitherRead t layout m ins start p → p.good ≡ true → EitherGot t layout m ins start p.own p.at
-  either_good First h x g =
-      let same : class_read m ins ≡ standings_read m ins p.own = sym (own_start (entry p.own) {r = class_read m ins} x.2 Either (before_either m ins).none) in
-      record {
-        inside = omega (arith, x.1);
-        long = x.3;
-        ones = λ c l. omega (arith, x.2 c l);
-        leads = rw x.1 (subst (λ (q : Record). Leads t (rest_due (more Held nothing) (class_read m ins)) start (due (count Held nothing q)) start) same (at_start t _ start));
-      }
-  either_good Today h x g =
-      let y = part_good x g in
-      record { inside = y.inside; long = y.long; ones = y.most; leads = y.leads (more Held profile) (class_read m ins) (before_either m ins) }
+pub either_missed : (layout : Layout) (m : ℕ) (ins : List ℕ) (f : Form) (e : Refusal) → EitherMissed layout m ins f e → Stops (rest_due (behind_class layout) (class_read m ins)) f e
+either_missed First m ins f e x = absurd x
+either_missed Today m ins f e x = x.stops (more Held profile) (class_read m ins) (before_either m ins)
+
+pub either_found : (layout : Layout) (m : ℕ) (ins : List ℕ) (f g : Form) (own : List ℕ) → EitherFound layout m ins f g own → EitherGot layout m ins f g own
+either_found First m ins f g own x = none_found x
+either_found Today m ins f g own x = record { long = x.long; ones = x.most; leads = x.leads (more Held profile) (class_read m ins) (before_either m ins) }
 
 -- the profile, which 01's layout has not
-module _ (t : List ℕ) (m : ℕ) (ins either times : List ℕ) (start : ℕ) (g : Groups) where
-  pub end_bad : (layout : Layout) → EndRead t layout m either start g → g.good ≡ false
-      → Run most_marks (rest_due (behind_held layout) (held_read m ins either times)) start (drop start t) (refused 10 g.at)
-  end_bad First x n = clash x.0 n
-  end_bad Today x n = carried_run x n (held_read m ins either times) (before_profile m ins either times)
+module _ (m : ℕ) (ins either times : List ℕ) where
+  pub end_missed : (layout : Layout) (f : Form) (e : Refusal) → EndMissed layout m either f e → Stops (rest_due (behind_held layout) (held_read m ins either times)) f e
+  end_missed First f e x = absurd x
+  end_missed Today f e x = x.stops (held_read m ins either times) (before_profile m ins either times)
 
-  pub end_good : (layout : Layout) → EndRead t layout m either start g → g.good ≡ true
-      → Leads t (rest_due (behind_held layout) (held_read m ins either times)) start (end (whole_record m ins either times g.profile)) g.at
-  end_good First x y = rw (x.1, x.2) (at_start t (end (held_read m ins either times)) start)
-  end_good Today x y = carried_leads x y (held_read m ins either times) (before_profile m ins either times)
+  pub end_found : (layout : Layout) (f g : Form) (p : Profile) → EndFound layout m either f g p
+      → Leads (rest_due (behind_held layout) (held_read m ins either times)) f (end (whole_record m ins either times p)) g
+  end_found First f g p x = rw (x.0, x.1) (at_start (end (held_read m ins either times)) f)
+  end_found Today f g p x = x.leads (held_read m ins either times) (before_profile m ins either times)
 
 module _ (m : ℕ) (ins either times : List ℕ) (p : Profile) where
   times_told : (c : ℕ) → c < 2 ^ m → entry times c ≡ (whole_record m ins either times p).times c
@@ -198,7 +215,7 @@ module _ (m : ℕ) (ins either times : List ℕ) (p : Profile) where
           (entry either c) (omega (arith, either_ones c l)) (sym (adds_none (ltb 0 (entry ins c)))) refl)
 
       pub read_answered : {s : Sheet} → s ≡ sheet_from entries m p (entry rest) (entry either) (entry times)
-          → ◌≡◌ {A = Read} (record { number = 0; place = 0; sheet = s }) (read_of entries (good (whole_record m ins either times p)))
+          → read_as (Ok s) ≡ read_of entries (good (whole_record m ins either times p))
       read_answered e =
-          ap (λ (y : Sheet). record { number = 0; place = 0; sheet = y })
+          ap (λ (y : Sheet). read_as (Ok y))
           (e ∙ sheet_same entries m p _ _ _ _ _ _ outs_told eithers_told times_told)

@@ -1,29 +1,45 @@
--- What the parts of the reader tell each other. t is all the bytes, and `at` an offset.
-use Rattle.std.specs.Prelude.{ℕ, ◌^◌, ◌≤◌, ◌<◌, ◌≡◌, true, false, List, ltb, length, drop}
+-- What the parts of the reader tell each other. f and g are the cursors before them and behind them.
+use Rattle.std.specs.Prelude.{ℕ, ◌^◌, ◌≤◌, ◌<◌, ◌≡◌, true, List, ltb, length, Result, MatchResult}
 use Rattle.tables.specs.Tables.{entry}
 use Rattle.profiles.specs.Profiles.{breaks}
 use Rattle.profiles.specs.declared.Profile.{Profile}
 use Rattle.profiles.specs.declared.Profile.TheVariants.{None}
 use Rattle.classes.specs.Standings.{is_either}
-use Rattle.sheet.specs.Limits.{most_marks}
+use Rattle.refusals.specs.declared.Refusal.{Refusal}
 use Rattle.sheet.specs.Record.{Record, with_profile}
-use Rattle.stored.specs.Fields.{Next, due, group, perhaps, complete, end, groups_due, refused, Run}
+use Rattle.stored.specs.Sections.{Rest}
+use Rattle.stored.specs.Fields.{Next, due, count, group, rest_due, perhaps, complete, end, groups_due}
 use Rattle.stored.specs.declared.Section.TheVariants.{Either}
 use Rattle.stored.specs.declared.Layout.{Layout}
 use Rattle.stored.specs.declared.Layout.TheVariants.{First, Today}
-use Rattle.reading.specs.declared.groups.Groups.{Groups}
-use Rattle.sections.specs.Parts.{Leads, SectionRead}
-use Rattle.sections.specs.declared.Part.{Part}
+use Rattle.sections.specs.Parts.{Leads, Stops, Got, Missed}
+use Rattle.sections.specs.declared.fields.Form.{Form}
+
+-- nothing is read, and no combination is either
+pub record NoneRead (m : ℕ) (f g : Form) (own : List ℕ) : Type 0 where
+  pub stays : g ≡ f
+  pub none : (c : ℕ) → c < 2 ^ m → entry own c ≡ 0
+  pub long : 2 ^ m ≤ length own
 
 -- the either section behind a class of these combinations; 01's layout has none
-abbrev pub EitherRead : List ℕ → Layout → ℕ → List ℕ → ℕ → Part → Type 0
-EitherRead t First m ins start p = (p.good ≡ true) × (p.at ≡ start) × ((c : ℕ) → c < 2 ^ m → entry p.own c ≡ 0) × (2 ^ m ≤ length p.own)
-EitherRead t Today m ins start p = SectionRead t Either m ins start p
+abbrev pub EitherFound : Layout → ℕ → List ℕ → Form → Form → List ℕ → Type 0
+EitherFound First m ins f g own = NoneRead m f g own
+EitherFound Today m ins f g own = Got Either m ins (λ (rest : Rest) (r : Record). due (count Either rest r)) rest_due f g own
 
--- Some groups: refused with 10 and the place, or read. The run leads from one field to another, whatever record R was read before them; they make its profile.
-pub data Carried (t : List ℕ) (R : Record → Type 0) (from to : Record → Next) (start : ℕ) : Groups → Type 0 where
-  bad : {g : Groups} → g.good ≡ false → ((r : Record) → R r → Run most_marks (from r) start (drop start t) (refused 10 g.at)) → Carried t R from to start g
-  good : {g : Groups} → g.good ≡ true → g.at ≤ length t → ((r : Record) → R r → Leads t (from r) start (to (with_profile g.profile r)) g.at) → Carried t R from to start g
+abbrev pub EitherMissed : Layout → ℕ → List ℕ → Form → Refusal → Type 0
+EitherMissed First m ins f e = ⊥
+EitherMissed Today m ins f e = Missed Either m ins (λ (rest : Rest) (r : Record). due (count Either rest r)) f e
+
+abbrev pub EitherRead : Layout → ℕ → List ℕ → Form → Form → Result (List ℕ) Refusal → Type 0
+EitherRead layout m ins f g result = MatchResult result (λ own. EitherFound layout m ins f g own) (λ e. EitherMissed layout m ins f e)
+
+-- Some groups that were read: the run leads from one field to another, whatever record R was read before them; they make its profile.
+pub record Carried (R : Record → Type 0) (from to : Record → Next) (f g : Form) (p : Profile) : Type 0 where
+  pub leads : (r : Record) → R r → Leads (from r) f (to (with_profile p r)) g
+
+-- some that are refused
+pub record Dropped (R : Record → Type 0) (from : Record → Next) (f : Form) (e : Refusal) : Type 0 where
+  pub stops : (r : Record) → R r → Stops (from r) f e
 
 -- a record of m marks with a profile
 pub record With (m : ℕ) (p : Profile) (r : Record) : Type 0 where
@@ -31,11 +47,17 @@ pub record With (m : ℕ) (p : Profile) (r : Record) : Type 0 where
   pub profile : r.profile ≡ p
 
 -- a group behind those of a profile, with `left` more behind it; and n groups
-abbrev pub GroupRead : List ℕ → ℕ → Profile → ℕ → Groups → Type 0
-GroupRead t m p at g = (start left : ℕ) → Carried t (With m p) (λ (r : Record). due (group r start left)) (λ (r : Record). groups_due r start left) at g
+abbrev pub GroupRead : ℕ → Profile → Form → Form → Result Profile Refusal → Type 0
+GroupRead m p f g result =
+    MatchResult result
+    (λ q. (start left : ℕ) → Carried (With m p) (λ (r : Record). due (group r start left)) (λ (r : Record). groups_due r start left) f g q)
+    (λ e. (start left : ℕ) → Dropped (With m p) (λ (r : Record). due (group r start left)) f e)
 
-abbrev pub GroupsRead : List ℕ → ℕ → ℕ → ℕ → Groups → Type 0
-GroupsRead t m n at g = (start : ℕ) → Carried t (With m None) (λ (r : Record). groups_due r start n) (λ (r : Record). complete r start) at g
+abbrev pub GroupsRead : ℕ → ℕ → Form → Form → Result Profile Refusal → Type 0
+GroupsRead m n f g result =
+    MatchResult result
+    (λ q. (start : ℕ) → Carried (With m None) (λ (r : Record). groups_due r start n) (λ (r : Record). complete r start) f g q)
+    (λ e. (start : ℕ) → Dropped (With m None) (λ (r : Record). groups_due r start n) f e)
 
 -- each combination that breaks a profile has a number other than 0
 abbrev pub Covered : ℕ → Profile → List ℕ → Type 0
@@ -47,10 +69,18 @@ pub record ProfileBefore (m : ℕ) (eithers : List ℕ) (r : Record) : Type 0 wh
   pub told : (c : ℕ) → c < 2 ^ m → is_either (r.standing c) ≡ ltb 0 (entry eithers c)
 
 -- a profile, or none
-abbrev pub ProfileRead : List ℕ → ℕ → List ℕ → ℕ → Groups → Type 0
-ProfileRead t m eithers at g = Carried t (ProfileBefore m eithers) perhaps end at g
+abbrev pub ProfileRead : ℕ → List ℕ → Form → Form → Result Profile Refusal → Type 0
+ProfileRead m eithers f g result =
+    MatchResult result (λ p. Carried (ProfileBefore m eithers) perhaps end f g p) (λ e. Dropped (ProfileBefore m eithers) perhaps f e)
 
--- behind all sections; 01's layout has none
-abbrev pub EndRead : List ℕ → Layout → ℕ → List ℕ → ℕ → Groups → Type 0
-EndRead t First m eithers start g = (g.good ≡ true) × (g.at ≡ start) × (g.profile ≡ None)
-EndRead t Today m eithers start g = ProfileRead t m eithers start g
+-- behind all sections; 01's layout has no profile
+abbrev pub EndFound : Layout → ℕ → List ℕ → Form → Form → Profile → Type 0
+EndFound First m eithers f g p = (g ≡ f) × (p ≡ None)
+EndFound Today m eithers f g p = Carried (ProfileBefore m eithers) perhaps end f g p
+
+abbrev pub EndMissed : Layout → ℕ → List ℕ → Form → Refusal → Type 0
+EndMissed First m eithers f e = ⊥
+EndMissed Today m eithers f e = Dropped (ProfileBefore m eithers) perhaps f e
+
+abbrev pub EndRead : Layout → ℕ → List ℕ → Form → Form → Result Profile Refusal → Type 0
+EndRead layout m eithers f g result = MatchResult result (λ p. EndFound layout m eithers f g p) (λ e. EndMissed layout m eithers f e)

@@ -3,24 +3,27 @@ use Prim.Native.Nat.{ℕ, zero, suc, ◌+◌, ◌-◌, ◌^◌, ◌≤◌, ◌<�
 use mathlib.Core.Path.{◌≡◌, refl, sym, ap, ◌∙◌, subst}
 use mathlib.Core.Bool.{true, false}
 use mathlib.Core.List.{List}
+use Rattle.std.specs.Prelude.{Result, Ok, Err}
 use native.Mathlib.Nat.{one-le-pow}
 use native.Mathlib.Numerals.{sub-one}
 use native.Mathlib.Omega.{arith}
 use lib.Dec.{eqb}
-use lib.ListN.{length, drop, set, length-set}
+use lib.ListN.{length, set, length-set}
 use borrow.Author.Tests.{le-leb, lt-leb, lt-ltb, le-ltb, eq-eqb, ne_eqb}
-use Rattle.ground.proofs.Cases.{below_or, same_or, clash}
+use Rattle.ground.proofs.Cases.{below_or, same_or}
 use Rattle.tables.specs.Tables.{entry}
-use Rattle.sheet.specs.Limits.{most_marks, most_held}
+use Rattle.refusals.specs.declared.Refusal.{Refusal}
+use Rattle.refusals.specs.declared.Refusal.TheVariants.{Unreadable}
+use Rattle.sheet.specs.Limits.{most_held}
 use Rattle.sheet.specs.Record.{Record}
 use Rattle.stored.specs.Sections.{Rest, bytes_behind, takes, held_in, added}
-use Rattle.stored.specs.Fields.{Next, due, count, combination, behind, rest_due, entries_due, judge, refused, Run}
+use Rattle.stored.specs.Fields.{Next, due, count, combination, behind, rest_due, entries_due, judge}
 use Rattle.stored.specs.declared.Section.{Section}
 use Rattle.stored.proofs.Sections.{held_more}
-use Rattle.sections.specs.Parts.{FieldRead, Leads, least, has_in, with_own, ReadBefore, Got, PartRead, bad, good}
-use Rattle.sections.specs.declared.fields.Field.{Field}
-use Rattle.sections.specs.declared.Part.{Part}
-use Rattle.sections.proofs.Offsets.{start as at_start, then, then-run, field_inside, field_number, field_taken, field_wrong, field_barred}
+use Rattle.sections.specs.Places.{offset_of, Fits, Faulty}
+use Rattle.sections.specs.Parts.{Leads, Stops, least, has_in, with_own, ReadBefore, Got, Missed, PartRead}
+use Rattle.sections.specs.declared.fields.Form.{Form}
+use Rattle.sections.proofs.Offsets.{start as at_start, then, then_stops, field_taken, field_missed, field_barred}
 use Rattle.sections.proofs.Own.{own_marks, own_start, set_here, set_other, own_added, own_none, own_takes, may_stand-true, may_not, own_most}
 
 -- a combination is due where some are left, and what follows the section where none is
@@ -33,190 +36,172 @@ entries_none s rest r zero low e = refl
 entries_none s rest r (suc k) low e = absurd (omega arith)
 
 -- a count, with the section's combinations behind it
-module _ {t : List ℕ} {at m : ℕ} {f : Field} (s : Section) (rest : Rest) (r : Record) (em : r.marks ≡ m) (v : FieldRead t at 2 0 (2 ^ m) f) where
+module _ {m : ℕ} (s : Section) (rest : Rest) (r : Record) (em : r.marks ≡ m) where
   same_size : 2 ^ r.marks ≡ 2 ^ m
   same_size = ap (λ (x : ℕ). 2 ^ x) em
 
-  pub count_taken : f.good ≡ true → Leads t (due (count s rest r)) at (entries_due s rest r f.number 0) f.at
+  pub count_taken : {f g : Form} {n : ℕ} → Fits f 2 0 (2 ^ m) g n → Leads (due (count s rest r)) f (entries_due s rest r n 0) g
   unfolding judge
-  count_taken g =
-      let n = field_number v g in
-      field_taken (count s rest r) refl v g (entries_due s rest r f.number 0) (rw (le-leb f.number (2 ^ r.marks) (omega (arith, same_size))))
+  count_taken {f = f} {n = n} v =
+      field_taken (count s rest r) refl f v (entries_due s rest r n 0) (rw (le-leb n (2 ^ r.marks) (omega (arith, same_size, v.most))))
 
-  pub count_wrong : f.good ≡ false → at ≤ length t → Run most_marks (due (count s rest r)) at (drop at t) (refused 10 f.at)
+  pub count_missed : {f : Form} {e : Refusal} → Faulty f 2 0 (2 ^ m) e → Stops (due (count s rest r)) f e
   unfolding judge
-  count_wrong g l =
-      field_wrong (count s rest r) refl v g l
+  count_missed {f = f} v =
+      field_missed (count s rest r) refl f v
       (λ x small n. below_or (2 ^ r.marks) x (λ q. rw (lt-leb x (2 ^ r.marks) q)) (λ q. absurd (n (omega arith) (omega (arith, same_size)))))
 
 -- a combination
-module _ {t : List ℕ} {at low m : ℕ} {f : Field} (s : Section) (rest : Rest) (r : Record) (left : ℕ) (some : 0 < left) (em : r.marks ≡ m)
-    (v : FieldRead t at 1 low (2 ^ m - 1) f) where
+module _ {m : ℕ} (s : Section) (rest : Rest) (r : Record) (left : ℕ) (some : 0 < left) (em : r.marks ≡ m) where
   top : (2 ^ r.marks ≡ 2 ^ m) × (1 ≤ 2 ^ m)
   top = (ap (λ (x : ℕ). 2 ^ x) em, one-le-pow m 2 (omega arith))
 
-  pub combination_taken : f.good ≡ true → takes s r f.number ≡ true → Leads t (entries_due s rest r left low) at (due (behind s rest r (left - 1) f.number)) f.at
-  unfolding judge
-  combination_taken g ok =
-      let n = field_number v g in
-      let e = top in
-      rw (entries_some s rest r left low some)
-      (field_taken (combination s rest r (left - 1) low) refl v g (due (behind s rest r (left - 1) f.number))
-      (rw (le-leb low f.number n.1, lt-ltb f.number (2 ^ r.marks) (omega arith), ok)))
+  module _ {f g : Form} {low c : ℕ} (v : Fits f 1 low (2 ^ m - 1) g c) where
+    inside : c < 2 ^ r.marks
+    inside = omega (arith, v.most, top.0, top.1)
 
-  pub combination_barred : f.good ≡ true → takes s r f.number ≡ false → Run most_marks (entries_due s rest r left low) at (drop at t) (refused 10 at)
-  unfolding judge
-  combination_barred g bar =
-      let n = field_number v g in
-      let e = top in
-      rw (entries_some s rest r left low some)
-      (field_barred (combination s rest r (left - 1) low) refl v g (rw (le-leb low f.number n.1, lt-ltb f.number (2 ^ r.marks) (omega arith), bar)))
+    pub combination_taken : takes s r c ≡ true → Leads (entries_due s rest r left low) f (due (behind s rest r (left - 1) c)) g
+    unfolding judge
+    combination_taken ok =
+        rw (entries_some s rest r left low some)
+        (field_taken (combination s rest r (left - 1) low) refl f v (due (behind s rest r (left - 1) c))
+        (rw (le-leb low c v.least, lt-ltb c (2 ^ r.marks) inside, ok)))
 
-  pub combination_wrong : f.good ≡ false → at ≤ length t → Run most_marks (entries_due s rest r left low) at (drop at t) (refused 10 f.at)
+    pub combination_barred : takes s r c ≡ false → Stops (entries_due s rest r left low) f (Unreadable (offset_of f))
+    unfolding judge
+    combination_barred bar =
+        rw (entries_some s rest r left low some)
+        (field_barred (combination s rest r (left - 1) low) refl f v (rw (le-leb low c v.least, lt-ltb c (2 ^ r.marks) inside, bar)))
+
+  pub combination_missed : {f : Form} {low : ℕ} {e : Refusal} → Faulty f 1 low (2 ^ m - 1) e → Stops (entries_due s rest r left low) f e
   unfolding judge
-  combination_wrong g l =
+  combination_missed {f = f} {low = low} v =
       let e = top in
       rw (entries_some s rest r left low some)
-      (field_wrong (combination s rest r (left - 1) low) refl v g l
+      (field_missed (combination s rest r (left - 1) low) refl f v
       (λ x small n. below_or x low (λ q. rw (lt-leb low x q))
       (λ q. below_or x (2 ^ r.marks) (λ p. absurd (n q (omega arith))) (λ p. rw (le-leb low x q, le-ltb x (2 ^ r.marks) p)))))
 
 -- the number behind it
-module _ {t : List ℕ} {at sum : ℕ} {f : Field} (s : Section) (rest : Rest) (r : Record) (left c : ℕ) (h : sum ≤ most_held) (es : held_in r ≡ sum)
-    (v : FieldRead t at (bytes_behind s) (least s) (most_held - sum) f) where
-  pub behind_taken : f.good ≡ true → Leads t (due (behind s rest r left c)) at (entries_due s rest (added s r c f.number) left (c + 1)) f.at
+module _ {f : Form} {sum : ℕ} (s : Section) (rest : Rest) (r : Record) (left c : ℕ) (h : sum ≤ most_held) (es : held_in r ≡ sum) where
+  pub behind_taken : {g : Form} {x : ℕ} → Fits f (bytes_behind s) (least s) (most_held - sum) g x
+      → Leads (due (behind s rest r left c)) f (entries_due s rest (added s r c x) left (c + 1)) g
   unfolding judge
-  behind_taken g =
-      let n = field_number v g in
-      field_taken (behind s rest r left c) refl v g (entries_due s rest (added s r c f.number) left (c + 1))
-      (rw (es, may_stand-true s sum f.number h n.0 n.1 n.2))
+  behind_taken {x = x} v =
+      field_taken (behind s rest r left c) refl f v (entries_due s rest (added s r c x) left (c + 1))
+      (rw (es, may_stand-true s sum x h v.small v.least v.most))
 
-  pub behind_wrong : f.good ≡ false → at ≤ length t → Run most_marks (due (behind s rest r left c)) at (drop at t) (refused 10 f.at)
+  pub behind_missed : {e : Refusal} → Faulty f (bytes_behind s) (least s) (most_held - sum) e → Stops (due (behind s rest r left c)) f e
   unfolding judge
-  behind_wrong g l = field_wrong (behind s rest r left c) refl v g l (λ x small n. rw (es, may_not s sum x h small n))
+  behind_missed v = field_missed (behind s rest r left c) refl f v (λ x small n. rw (es, may_not s sum x h small n))
 
 -- What the loop keeps: it stands at the combinations from `low` on, `left` of them, with `sum` seconds so far.
-pub record EntriesReached (t : List ℕ) (s : Section) (m : ℕ) (barred : List ℕ) (n start : ℕ) (own : List ℕ) (at low left sum : ℕ) : Type 0 where
-  pub got : Got t s m barred (λ (rest : Rest) (r : Record). entries_due s rest r n 0) (λ (rest : Rest) (r : Record). entries_due s rest r left low) start own at
+pub record EntriesReached (s : Section) (m : ℕ) (barred : List ℕ) (n : ℕ) (f g : Form) (own : List ℕ) (low left sum : ℕ) : Type 0 where
+  pub got : Got s m barred (λ (rest : Rest) (r : Record). entries_due s rest r n 0) (λ (rest : Rest) (r : Record). entries_due s rest r left low) f g own
   pub clear : (c : ℕ) → low ≤ c → c < 2 ^ m → entry own c ≡ 0
   pub sum_is : (r : Record) → ReadBefore s m barred r → held_in (with_own s (entry own) r) ≡ sum
   pub sum_most : sum ≤ most_held
 
 -- nothing is read yet
-module _ (t : List ℕ) (s : Section) (m : ℕ) (barred : List ℕ) (own : List ℕ) (clear : (c : ℕ) → c < 2 ^ m → entry own c ≡ 0) where
+module _ (s : Section) (m : ℕ) (barred : List ℕ) (own : List ℕ) (clear : (c : ℕ) → c < 2 ^ m → entry own c ≡ 0) where
   as_before : (r : Record) → ReadBefore s m barred r → with_own s (entry own) r ≡ r
   as_before r b = own_start (entry own) {r = r} (λ c l. clear c (omega (arith, ap (λ (x : ℕ). 2 ^ x) b.marks))) s b.none
 
-  pub reached_none : (n start : ℕ) → start ≤ length t → 2 ^ m ≤ length own → EntriesReached t s m barred n start own start 0 n 0
-  reached_none n start inside long = record {
+  pub reached_none : (n : ℕ) (f : Form) → 2 ^ m ≤ length own → EntriesReached s m barred n f f own 0 n 0
+  reached_none n f long = record {
     got = record {
-      inside = inside;
       long = long;
       most = λ c l. omega (arith, clear c l);
-      leads = λ rest r b. subst (λ (q : Record). Leads t (entries_due s rest r n 0) start (entries_due s rest q n 0) start) (sym (as_before r b)) (at_start t (entries_due s rest r n 0) start);
+      leads = λ rest r b. subst (λ (q : Record). Leads (entries_due s rest r n 0) f (entries_due s rest q n 0) f) (sym (as_before r b)) (at_start (entries_due s rest r n 0) f);
     };
     clear = λ c z l. clear c l;
     sum_is = λ r b. ap held_in (as_before r b) ∙ b.nothing_held;
     sum_most = omega arith;
   }
 
-module _ {t : List ℕ} {s : Section} {m : ℕ} {barred : List ℕ} {n start : ℕ} {own : List ℕ} {at low left sum : ℕ} (v : EntriesReached t s m barred n start own at low left sum) where
-  pub reached_end : left ≡ 0 → Got t s m barred (λ (rest : Rest) (r : Record). entries_due s rest r n 0) rest_due start own at
+module _ {s : Section} {m : ℕ} {barred : List ℕ} {n : ℕ} {f g : Form} {own : List ℕ} {low left sum : ℕ} (v : EntriesReached s m barred n f g own low left sum) where
+  pub reached_end : left ≡ 0 → Got s m barred (λ (rest : Rest) (r : Record). entries_due s rest r n 0) rest_due f g own
   reached_end e = record {
-    inside = v.got.inside;
     long = v.got.long;
     most = v.got.most;
     leads = λ rest r b.
-        subst (λ (u : Next). Leads t (entries_due s rest r n 0) start u at) (entries_none s rest (with_own s (entry own) r) left low e) (v.got.leads rest r b);
+        subst (λ (u : Next). Leads (entries_due s rest r n 0) f u g) (entries_none s rest (with_own s (entry own) r) left low e) (v.got.leads rest r b);
   }
 
-  module _ {f : Field} (some : 0 < left) (read : FieldRead t at 1 low (2 ^ m - 1) f) where
+  module _ (some : 0 < left) where
     -- a wrong combination
-    pub entry_wrong : f.good ≡ false → (rest : Rest) (r : Record) → ReadBefore s m barred r
-        → Run most_marks (entries_due s rest r n 0) start (drop start t) (refused 10 f.at)
-    entry_wrong g rest r b =
-        then-run (v.got.leads rest r b) (combination_wrong s rest (with_own s (entry own) r) left some (own_marks s (entry own) r ∙ b.marks) read g v.got.inside)
+    pub entry_missed : {e : Refusal} → Faulty g 1 low (2 ^ m - 1) e → Missed s m barred (λ (rest : Rest) (r : Record). entries_due s rest r n 0) f e
+    entry_missed w = record {
+      stops = λ rest r b. then_stops (v.got.leads rest r b) (combination_missed s rest (with_own s (entry own) r) left some (own_marks s (entry own) r ∙ b.marks) w);
+    }
 
-    module _ (g : f.good ≡ true) where
+    module _ {h : Form} {c : ℕ} (read : Fits g 1 low (2 ^ m - 1) h c) where
+      c_m : c < 2 ^ m
+      c_m = omega (arith, read.most, one-le-pow m 2 (omega arith))
+
       -- whether the section takes it
-      taken_by : (r : Record) → ReadBefore s m barred r → takes s (with_own s (entry own) r) f.number ≡ eqb (entry barred f.number) 0
-      taken_by r b =
-          let k = field_number read g in
-          let pos : 1 ≤ 2 ^ m = one-le-pow m 2 (omega arith) in
-          let c_m : f.number < 2 ^ m = omega arith in
-          own_takes (entry own) r f.number (v.clear f.number k.1 c_m) s ∙ b.taken f.number c_m
+      taken_by : (r : Record) → ReadBefore s m barred r → takes s (with_own s (entry own) r) c ≡ eqb (entry barred c) 0
+      taken_by r b = own_takes (entry own) r c (v.clear c read.least c_m) s ∙ b.taken c c_m
 
-      pub entry_barred : (entry barred f.number ≡ 0 → ⊥) → (rest : Rest) (r : Record) → ReadBefore s m barred r
-          → Run most_marks (entries_due s rest r n 0) start (drop start t) (refused 10 at)
-      entry_barred bar rest r b =
-          then-run (v.got.leads rest r b)
-          (combination_barred s rest (with_own s (entry own) r) left some (own_marks s (entry own) r ∙ b.marks) read g (taken_by r b ∙ ne_eqb _ 0 bar))
+      pub entry_barred : (entry barred c ≡ 0 → ⊥) → Missed s m barred (λ (rest : Rest) (r : Record). entries_due s rest r n 0) f (Unreadable (offset_of g))
+      entry_barred bar = record {
+        stops = λ rest r b.
+            then_stops (v.got.leads rest r b)
+            (combination_barred s rest (with_own s (entry own) r) left some (own_marks s (entry own) r ∙ b.marks) read (taken_by r b ∙ ne_eqb _ 0 bar));
+      }
 
-      module _ {x : Field} (ok : entry barred f.number ≡ 0) (next : FieldRead t f.at (bytes_behind s) (least s) (most_held - sum) x) where
+      module _ (ok : entry barred c ≡ 0) where
         -- where the number behind it is due
         to_behind : (rest : Rest) (r : Record) → ReadBefore s m barred r
-            → Leads t (entries_due s rest r n 0) start (due (behind s rest (with_own s (entry own) r) (left - 1) f.number)) f.at
+            → Leads (entries_due s rest r n 0) f (due (behind s rest (with_own s (entry own) r) (left - 1) c)) h
         to_behind rest r b =
             then (v.got.leads rest r b)
-            (combination_taken s rest (with_own s (entry own) r) left some (own_marks s (entry own) r ∙ b.marks) read g (taken_by r b ∙ eq-eqb _ 0 ok))
+            (combination_taken s rest (with_own s (entry own) r) left some (own_marks s (entry own) r ∙ b.marks) read (taken_by r b ∙ eq-eqb _ 0 ok))
 
-        pub number_wrong : x.good ≡ false → (rest : Rest) (r : Record) → ReadBefore s m barred r
-            → Run most_marks (entries_due s rest r n 0) start (drop start t) (refused 10 x.at)
-        number_wrong w rest r b =
-            then-run (to_behind rest r b)
-            (behind_wrong s rest (with_own s (entry own) r) (left - 1) f.number v.sum_most (v.sum_is r b) next w (field_inside read g))
+        pub number_missed : {e : Refusal} → Faulty h (bytes_behind s) (least s) (most_held - sum) e
+            → Missed s m barred (λ (rest : Rest) (r : Record). entries_due s rest r n 0) f e
+        number_missed w = record {
+          stops = λ rest r b.
+              then_stops (to_behind rest r b) (behind_missed s rest (with_own s (entry own) r) (left - 1) c v.sum_most (v.sum_is r b) w);
+        }
 
-        pub reached_more : x.good ≡ true
-            → EntriesReached t s m barred n start (set own f.number (has_in s x.number)) x.at (f.number + 1) (left - 1) (sum + x.number)
-        reached_more w =
-            let c = f.number in
-            let y = has_in s x.number in
-            let nc = field_number read g in
-            let ny = field_number next w in
-            let pos : 1 ≤ 2 ^ m = one-le-pow m 2 (omega arith) in
-            let c_m : c < 2 ^ m = omega arith in
-            let c_own : c < length own = omega (arith, v.got.long) in
+        pub reached_more : {i : Form} {x : ℕ} → Fits h (bytes_behind s) (least s) (most_held - sum) i x
+            → EntriesReached s m barred n f i (set own c (has_in s x)) (c + 1) (left - 1) (sum + x)
+        reached_more {i} {x} w =
+            let y = has_in s x in
+            let c_own : c < length own = omega (arith, v.got.long, c_m) in
             let other : (z : ℕ) → (z ≡ c → ⊥) → entry (set own c y) z ≡ entry own z = set_other own c y c_own in
-            let most = own_most s x.number (omega (arith, v.sum_most)) in
-            let same : (r : Record) → ReadBefore s m barred r → added s (with_own s (entry own) r) c x.number ≡ with_own s (entry (set own c y)) r =
-            λ r b. own_added own c x.number c_own s r (omega (arith, ap (λ (j : ℕ). 2 ^ j) b.marks)) in
+            let most = own_most s x (omega (arith, v.sum_most, w.most)) in
+            let same : (r : Record) → ReadBefore s m barred r → added s (with_own s (entry own) r) c x ≡ with_own s (entry (set own c y)) r =
+            λ r b. own_added own c x c_own s r (omega (arith, c_m, ap (λ (j : ℕ). 2 ^ j) b.marks)) in
             record {
               got = record {
-                inside = field_inside next w;
                 long = omega (arith, length-set own c y, v.got.long);
                 most = λ z l. same_or z c
                     (λ q. omega (arith, ap (entry (set own c y)) q, set_here own c y c_own, most))
                     (λ q. omega (arith, other z q, v.got.most z l));
                 leads = λ rest r b.
-                    subst (λ (q : Record). Leads t (entries_due s rest r n 0) start (entries_due s rest q (left - 1) (c + 1)) x.at) (same r b)
-                    (then (to_behind rest r b) (behind_taken s rest (with_own s (entry own) r) (left - 1) c v.sum_most (v.sum_is r b) next w));
+                    subst (λ (q : Record). Leads (entries_due s rest r n 0) f (entries_due s rest q (left - 1) (c + 1)) i) (same r b)
+                    (then (to_behind rest r b) (behind_taken s rest (with_own s (entry own) r) (left - 1) c v.sum_most (v.sum_is r b) w));
               };
-              clear = λ z lz l. other z (λ q. omega arith) ∙ v.clear z (omega arith) l;
+              clear = λ z lz l. other z (λ q. omega arith) ∙ v.clear z (omega (arith, read.least)) l;
               sum_is = λ r b.
-                  let inside : c < 2 ^ (with_own s (entry own) r).marks = omega (arith, ap (λ (j : ℕ). 2 ^ j) (own_marks s (entry own) r ∙ b.marks)) in
+                  let inside : c < 2 ^ (with_own s (entry own) r).marks = omega (arith, c_m, ap (λ (j : ℕ). 2 ^ j) (own_marks s (entry own) r ∙ b.marks)) in
                   ap held_in (sym (same r b))
-                  ∙ held_more s (with_own s (entry own) r) c x.number inside (own_none (entry own) r c (v.clear c nc.1 c_m) s (b.none c)) ny.0
-                  ∙ ap (λ (j : ℕ). j + x.number) (v.sum_is r b);
-              sum_most = omega (arith, v.sum_most);
+                  ∙ held_more s (with_own s (entry own) r) c x inside (own_none (entry own) r c (v.clear c read.least c_m) s (b.none c)) w.small
+                  ∙ ap (λ (j : ℕ). j + x) (v.sum_is r b);
+              sum_most = omega (arith, v.sum_most, w.most);
             }
 
--- a part that is refused at a place
-pub part_stopped : {t : List ℕ} {s : Section} {m start : ℕ} {barred : List ℕ} {from : Rest → Record → Next} {p : Part} (place : ℕ) → (p.good ≡ false) × (p.at ≡ place)
-    → ((rest : Rest) (r : Record) → ReadBefore s m barred r → Run most_marks (from rest r) start (drop start t) (refused 10 place)) → PartRead t s m barred from start p
-part_stopped {p = p} place e w = bad {p = p} e.0 (λ rest r b. rw e.1 (w rest r b))
-
 -- a part behind what leads to it
-pub part_after : {t : List ℕ} {s : Section} {m at at₁ : ℕ} {barred : List ℕ} {from from₁ : Rest → Record → Next} {p : Part}
-    → ((rest : Rest) (r : Record) → ReadBefore s m barred r → Leads t (from rest r) at (from₁ rest r) at₁) → PartRead t s m barred from₁ at₁ p → PartRead t s m barred from at p
-part_after l (bad e w) = bad e (λ rest r b. then-run (l rest r b) (w rest r b))
-part_after l (good e g) = good e (record { inside = g.inside; long = g.long; most = g.most; leads = λ rest r b. then (l rest r b) (g.leads rest r b) })
+module _ {s : Section} {m : ℕ} {barred : List ℕ} {from from₁ : Rest → Record → Next} {f f₁ : Form}
+    (l : (rest : Rest) (r : Record) → ReadBefore s m barred r → Leads (from rest r) f (from₁ rest r) f₁) where
+  pub got_after : {g : Form} {own : List ℕ} → Got s m barred from₁ rest_due f₁ g own → Got s m barred from rest_due f g own
+  got_after v = record { long = v.long; most = v.most; leads = λ rest r b. then (l rest r b) (v.leads rest r b) }
 
-module _ {t : List ℕ} {s : Section} {m start : ℕ} {barred : List ℕ} {from : Rest → Record → Next} {p : Part} where
-  pub part_bad : PartRead t s m barred from start p → p.good ≡ false → (rest : Rest) (r : Record) → ReadBefore s m barred r
-      → Run most_marks (from rest r) start (drop start t) (refused 10 p.at)
-  part_bad (bad e w) g = w
-  part_bad (good e w) g = clash e g
+  pub missed_after : {e : Refusal} → Missed s m barred from₁ f₁ e → Missed s m barred from f e
+  missed_after v = record { stops = λ rest r b. then_stops (l rest r b) (v.stops rest r b) }
 
-  pub part_good : PartRead t s m barred from start p → p.good ≡ true → Got t s m barred from rest_due start p.own p.at
-  part_good (bad e w) g = clash g e
-  part_good (good e w) g = w
+  pub part_after : (g : Form) (result : Result (List ℕ) Refusal) → PartRead s m barred from₁ f₁ g result → PartRead s m barred from f g result
+  part_after g (Ok own) v = got_after v
+  part_after g (Err e) v = missed_after v

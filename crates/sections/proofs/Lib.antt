@@ -1,3 +1,4 @@
+pub mod Refused
 pub mod Offsets
 pub mod Own
 pub mod Entries

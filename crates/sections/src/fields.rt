@@ -1,59 +1,64 @@
-// A field of the form, whatever it is: the number in some bytes, within limits.
-ghost use Rattle.std.specs.Prelude.{◌≡◌, ◌+◌, ◌^◌, ◌≤◌, ◌<◌, length};
-ghost use Rattle.sections.specs.Parts.{number_at, FieldRead};
+// The fields of a form, one behind the other.
+ghost use Rattle.std.specs.Prelude.{◌≡◌, ◌^◌, ◌≤◌, ◌<◌, length, OnErr};
+ghost use Rattle.stored.specs.Fields.{number_in};
 
-// A field that was read: its number, and where the next field stands; or, if it is not good, the place.
+use refusals::Refusal;
+
+// What is left of a form of so many bytes. The size is that of all the form: places count from its beginning, which `rest` does not tell.
 #[derive(Clone, Copy)]
-pub struct Field {
-    pub good: bool,
-    pub at: usize,
-    pub number: usize,
+pub struct Form<'a> {
+    pub size: usize,
+    pub rest: &'a [u8],
+    ghost within: { length rest.now ≤ size },
 }
 
-// The number in the k bytes at an offset, low byte first.
-fn number_at(t: &[u8], at: usize, k: usize) -> usize
-    requires { (k ≤ 4) × (at + k ≤ length t.now) }
-    ensures { (result ≡ number_at t.now at k) × (result < 256 ^ k) }
+// The number in some bytes, low byte first.
+fn number_in(bytes: &[u8]) -> usize
+    requires { length bytes.now ≤ 4 }
+    ensures number { result ≡ number_in bytes.now }
+    ensures small { result < 256 ^ length bytes.now }
 {
-    let mut n: usize = 0;
-    for i in 0..k {
-        let j = k - 1 - i;
-        n = n * 256 + ground::byte(t[at + j]);
+    match bytes {
+        [] => 0,
+        [low, rest @ ..] => usize::from(*low) + number_in(rest) * 256,
     }
-    n
 }
 
-// The field of k bytes at an offset, good if its number is `low` to `high`. The place is the length where the input ends early, else its offset.
-pub fn read(t: &[u8], at: usize, k: usize, low: usize, high: usize) -> Field
-    requires k_bound { k ≤ 4 }
-    requires at_in_bounds { at ≤ length t.now }
-    ensures { FieldRead t.now at k low high result }
-{
-    if t.len() - at < k {
-        return Field {
-            good: false,
-            at: t.len(),
-            number: 0,
-        };
+impl<'a> Form<'a> {
+    ghost use Rattle.sections.specs.Places.{offset_of, FieldRead};
+
+    // All of a form.
+    pub fn new(bytes: &'a [u8]) -> Form<'a>
+        ensures size { result.size ≡ length bytes.now }
+        ensures rest { result.rest.now ≡ bytes.now }
+    {
+        Form {
+            size: bytes.len(),
+            rest: bytes,
+        }
     }
-    let number = number_at(t, at, k);
-    if number < low {
-        return Field {
-            good: false,
-            at,
-            number,
-        };
+
+    // The place where the next field stands.
+    pub fn place(&self) -> usize
+        ensures { result ≡ offset_of self.now }
+    {
+        self.size - self.rest.len()
     }
-    if high < number {
-        return Field {
-            good: false,
-            at,
-            number,
+
+    // The next field, of k bytes, if its number is `low` to `high`; an error is at the field, or at the end where the bytes end early.
+    pub fn field(&mut self, k: usize, low: usize, high: usize) -> Result<usize, Refusal>
+        requires { k ≤ 4 }
+        ensures read { FieldRead self.old k low high self.new result }
+        ensures kept { OnErr result (self.new ≡ self.old) }
+    {
+        let Some((field, rest)) = self.rest.split_at_checked(k) else {
+            return Err(Refusal::Unreadable(self.size));
         };
-    }
-    Field {
-        good: true,
-        at: at + k,
-        number,
+        let number = number_in(field);
+        if number < low || high < number {
+            return Err(Refusal::Unreadable(self.place()));
+        }
+        self.rest = rest;
+        Ok(number)
     }
 }

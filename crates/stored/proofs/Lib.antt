@@ -11,4 +11,4 @@ pub mod Back
 pub mod Trips
 pub mod Sample
 pub mod Agrees
-pub mod Thirds
+pub mod Told

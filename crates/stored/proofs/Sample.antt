@@ -10,7 +10,7 @@ use Rattle.ground.proofs.Cases.{clash}
 use Rattle.classes.specs.Standings.{is_either}
 use Rattle.classes.specs.declared.Standing.TheVariants.{In, Out}
 use Rattle.sheet.specs.Limits.{most_marks, entries, marks_ok}
-use Rattle.stored.specs.declared.Read.{Read}
+use Rattle.stored.specs.Told.{Read}
 use Rattle.stored.specs.Fields.{good}
 use Rattle.stored.specs.Answers.{read_of, Reads}
 use Rattle.stored.specs.Form.{bytes, listed, form_by, form}

@@ -5,7 +5,7 @@ use mathlib.Core.List.{List}
 use native.Mathlib.Omega.{arith}
 use Rattle.sheet.specs.declared.Sheet.{Sheet}
 use Rattle.sheet.specs.Told.{Value}
-use Rattle.stored.specs.declared.Read.{Read}
+use Rattle.stored.specs.Told.{Read}
 use Rattle.stored.specs.Fields.{Next, Outcome, Run}
 use Rattle.stored.specs.Answers.{read_of, ReadBy, Writes, spoiled, short, written}
 use Rattle.stored.proofs.Runs.{one}

@@ -26,7 +26,7 @@ use Rattle.sheet.specs.Told.{Value}
 use Rattle.sheet.proofs.Limits.{marks_most}
 use Rattle.sheet.proofs.Opening.{sheet_same}
 use Rattle.sheet.proofs.Kept.{class_sound, standing_told, times_sound}
-use Rattle.stored.specs.declared.Read.{Read}
+use Rattle.stored.specs.Told.{Read}
 use Rattle.stored.specs.Fields.{Bytes, marks, due, Outcome, good, refused, Run}
 use Rattle.stored.specs.Sections.{Rest, nothing, profile, more, sections, bytes_behind, stands_in, number_behind}
 use Rattle.stored.specs.Form.{bytes, entry_of, entries_of, section, profile_bytes, rest_of, form_by, form}

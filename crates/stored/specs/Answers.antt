@@ -8,7 +8,7 @@ use Rattle.stored.specs.Fields.{Outcome, good, refused, ReadingBy}
 use Rattle.stored.specs.declared.Layout.{Layout}
 use Rattle.stored.specs.declared.Layout.TheVariants.{Today}
 use Rattle.stored.specs.Form.{form}
-use Rattle.stored.specs.declared.Read.{Read}
+use Rattle.stored.specs.Told.{Read}
 
 -- the sheet worked out from what was read; a refused read gives the sheet of an opened one-mark class with its number, and the place
 abbrev pub read_of : ℕ → Outcome → Read

@@ -1,3 +1,4 @@
+pub mod Told
 pub mod Sections
 pub mod Fields
 pub mod Form

@@ -18,7 +18,7 @@ use Rattle.sheet.proofs.Answers.{open_done, open_refused, open_under_done, open_
 use Rattle.stored.specs.Answers.{read_of, Reads}
 use Rattle.stored.specs.Fields.{good}
 use Rattle.stored.specs.Form.{form}
-use Rattle.stored.specs.declared.Read.{Read}
+use Rattle.stored.specs.Told.{Read}
 use Rattle.stored.proofs.Trips.{form_same_sheet, writes_done}
 use Rattle.histories.specs.Histories.{Good, after_all, numbers_of}
 use Rattle.histories.specs.Travels.{event_number, travel}

@@ -1,18 +1,13 @@
 -- A count, and what it counts.
-use Prim.Native.Nat.{ℕ, ◌^◌}
-use mathlib.Core.Path.{subst}
-use borrow.Author.Tests.{not-true, not-false}
-use Rattle.sections.specs.Parts.{FieldRead}
-use Rattle.sections.proofs.Entries.{count_taken, count_wrong, part_stopped, part_after}
+use Rattle.sections.proofs.Refused.{passed_on}
+use Rattle.sections.proofs.Entries.{count_taken, count_missed, part_after}
 use Rattle.sections.proofs.read.Goals as goal
-use Rattle.sections.proofs.read.Goals.{After-read-count}
 
-counted : (c : After-read-count) → FieldRead c.args.t.now c.args.at 2 0 (2 ^ c.args.m) c.read-count.result
-counted c = subst (λ (n : ℕ). FieldRead c.args.t.now c.args.at 2 0 n c.read-count.result) c.power2.ensures.0 c.read-count.ensures
-
-pub returns-then-not-count : goal.returns-then-not-count
-returns-then-not-count c =
-    part_stopped _ c.stopped.ensures (λ rest r b. count_wrong c.args.section rest r b.marks (counted (goal.at.returns-then-not-count c).After-read-count) (not-true _ c.if-not-count.true) c.requires.at_in_bounds)
+pub returns-in_err-count : goal.returns-in_err-count
+returns-in_err-count c =
+    passed_on _ _ c.from_residual.result _ c.from_residual.ensures.1
+    (record { stops = λ rest r b. count_missed c.args.section rest r b.marks (rw c.power2.ensures.0 at c.in_err-count.ensures.read) })
 
 pub returns : goal.returns
-returns c = part_after (λ rest r b. count_taken c.args.section rest r b.marks (counted (goal.at.returns c).After-read-count) (not-false _ c.if-not-count.false)) c.read_entries.ensures
+returns c =
+    part_after (λ rest r b. count_taken c.args.section rest r b.marks (rw c.power2.ensures.0 at c.in_ok-count.ensures.read)) _ _ c.read_entries.ensures

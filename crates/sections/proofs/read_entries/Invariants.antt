@@ -1,12 +1,8 @@
--- Behind each entry the run has led to the next; a field that is not good is refused at its place, and so is a combination that the section does not take.
-use Prim.Native.Nat.{◌-◌, ◌^◌}
-use mathlib.Core.Path.{◌≡◌}
+-- Behind each entry the run has led to the next; a field that is missed stops it at its place, and so does a combination that the section does not take.
+use Rattle.std.proofs.Common.{◌-◌, ◌^◌, ◌≡◌}
 use Rattle.sections.proofs.Entries.{EntriesReached}
 use Rattle.sections.proofs.read_entries.Given as goal
 
-abbrev pub invariant-loop-left : goal.invariant-loop-left
-invariant-loop-left l =
-    (l.top ≡ 2 ^ l.m - 1) × EntriesReached l.t l.section l.m l.barred l.n l.start l.own l.at l.low l.left l.sum
-
-abbrev pub decreases-loop-left : goal.decreases-loop-left
-decreases-loop-left l = l.left
+abbrev pub invariant-loop-i : goal.invariant-loop-i
+invariant-loop-i l =
+    (l.top ≡ 2 ^ l.m - 1) × EntriesReached l.section l.m l.barred l.n l.initial.form l.form l.own l.low (l.n - l.i) l.sum

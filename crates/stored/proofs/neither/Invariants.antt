@@ -1,10 +1,9 @@
--- Below c each combination has its mark; `came` says whether c got one.
-use Prim.Native.Nat.{◌-◌}
-use Rattle.stored.proofs.Thirds.{NeitherBelow}
+-- Below c each combination has its mark.
+use Rattle.std.proofs.Common.{◌≡◌, ℕ, ◌<◌, ◌&&◌, slice_index}
+use lib.Dec.{eqb}
+use Rattle.boxes.specs.Sums.{only}
+use Rattle.tables.specs.Tables.{entry}
 use Rattle.stored.proofs.neither.Given as goal
 
 abbrev pub invariant-loop-c : goal.invariant-loop-c
-invariant-loop-c l = NeitherBelow l.a l.b l.c l.rest
-
-abbrev pub decreases-loop-c : goal.decreases-loop-c
-decreases-loop-c l = 32 - l.c
+invariant-loop-c l = (k : ℕ) → k < l.c → slice_index l.rest-items k ≡ only (eqb (entry l.a k) 0 && eqb (entry l.b k) 0) 1

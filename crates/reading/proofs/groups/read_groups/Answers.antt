@@ -1,22 +1,20 @@
--- One group, or a second behind it.
-use native.Mathlib.Omega.{arith}
-use mathlib.Core.Path.{refl}
-use borrow.Author.Tests.{not-true, not-false}
-use Rattle.reading.proofs.Carried.{carried_inside, carried_bad, carried_then, groups_one, groups_two}
+-- One group more, or the first that is refused.
+use Rattle.std.proofs.Common.{◌≡◌, ◌+◌, ◌-◌, arith}
+use native.Mathlib.Nat.{sub-zero}
+use Rattle.sections.proofs.Refused.{passed_on}
+use Rattle.reading.proofs.Carried.{groups_none, groups_more, groups_dropped, groups_done}
 use Rattle.reading.proofs.groups.read_groups.Goals as goal
 
-pub returns-then-n-eq1 : goal.returns-then-n-eq1
-returns-then-n-eq1 c = groups_one (omega arith) (λ start. c.read_group-first.ensures start 0)
+pub loop-i-init : goal.loop-i-init
+loop-i-init c = rw (sub-zero c.args.n) (groups_none c.args.m c.args.n c.args.form.now)
 
-pub returns-then-not-first : goal.returns-then-not-first
-returns-then-not-first c =
-    groups_two c.requires.n_value (omega arith) (λ start. carried_bad (c.read_group-first.ensures start 1) (not-true _ c.if-not-first.true))
+pub returns-in_err-profile : goal.returns-in_err-profile
+returns-in_err-profile c = passed_on _ _ c.from_residual.result _ c.from_residual.ensures.1 (groups_dropped c.loop-i.invariant (omega arith) c.in_err-profile.ensures)
 
-pub read_group-requires : goal.read_group-requires
-read_group-requires c =
-    record { m_le_most_marks = c.requires.m_le_most_marks; at_in_bounds = carried_inside (c.read_group-first.ensures 0 0) (not-false _ c.if-not-first.false) }
+pub loop-i-preserved : goal.loop-i-preserved
+loop-i-preserved c =
+    let left : c.args.n - (c.loop-i.i + 1) ≡ c.args.n - c.loop-i.i - 1 = omega arith in
+    rw left (groups_more c.loop-i.invariant (omega arith) c.in_ok-profile.ensures)
 
 pub returns : goal.returns
-returns c =
-    groups_two c.requires.n_value (omega arith)
-    (λ start. carried_then (c.read_group-first.ensures start 1) (not-false _ c.if-not-first.false) (λ r b. record { marks = b.marks; profile = refl }) (c.read_group.ensures start 0))
+returns c = groups_done c.loop-i.invariant (omega arith)
