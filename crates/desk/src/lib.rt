@@ -4,4 +4,4 @@
 mod page;
 mod stages;
 
-pub use stages::{Desk, first_answer};
+pub use stages::{Desk, first_answer, spoken};

@@ -3,39 +3,21 @@ use Rattle.std.specs.Prelude.{ℕ, suc, ◌≡◌, Bool, true, false, cond, List
 use Rattle.tables.specs.Tables.{tab}
 use Rattle.sheet.specs.Limits.{entries}
 use Rattle.sheet.specs.Record.{sheet_of}
+use Rattle.machine.specs.Programs as machine
 use Rattle.bookings.specs.Bookings.{History, begun, record_now, month_total, last_date}
 use Rattle.bookings.specs.Months.{Kept}
-use Rattle.year.specs.Prints.{State, first, named, going, over}
-use Rattle.year.specs.declared.stages.Stage.{Stage}
-use Rattle.year.specs.declared.stages.Stage.TheVariants.{Naming, Opening, Going, Over}
+use Rattle.year.specs.Prints.{State, first, named, going, over, months}
+use Rattle.year.specs.declared.booked.Booked.{Booked}
 use Rattle.year.specs.declared.stages.Year.{Year}
-
-abbrev pub history_in : State → History
-history_in first = begun 0 1
-history_in (named y) = begun y 1
-history_in (going b h) = h
-history_in (over h) = h
-
-abbrev pub stage_in : State → Stage
-stage_in first = Naming
-stage_in (named y) = Opening
-stage_in (going b h) = Going
-stage_in (over h) = Over
-
--- whether a dated line has come
-abbrev pub dated_in : State → Bool
-dated_in first = false
-dated_in (named y) = false
-dated_in (going b h) = b
-dated_in (over h) = false
+use Rattle.year.specs.declared.stages.Year.TheVariants.{Naming, Opening, Going, Over}
 
 -- the totals of the months that are over, and 0 for the others
 abbrev pub closed_before : ℕ → (ℕ → ℕ) → List ℕ
 closed_before month totals = tab 12 (λ i. cond (ltb (suc i) month) (totals (suc i)) 0)
 
-abbrev pub year_with : Stage → Bool → History → Year
-year_with stage dated h = record {
-  stage = stage;
+-- what is booked with a history, and whether a dated line has come
+abbrev pub booked_with : Bool → History → Booked
+booked_with dated h = record {
   dated = dated;
   sheet = sheet_of entries (record_now h);
   last = last_date h;
@@ -43,7 +25,10 @@ year_with stage dated h = record {
 }
 
 abbrev pub year_of : State → Year
-year_of s = year_with (stage_in s) (dated_in s) (history_in s)
+year_of first = Naming
+year_of (named y) = Opening y
+year_of (going b h) = Going (booked_with b h)
+year_of (over h) = Over
 
 -- a state that a session can be in: as long as no dated line has come, no month is over
 abbrev pub Sensible : State → Type 0
@@ -52,13 +37,21 @@ Sensible (named y) = Kept (begun y 1)
 Sensible (going b h) = Kept h × (b ≡ false → (last_date h).month ≡ 1)
 Sensible (over h) = Kept h
 
--- the session stands in this state
-pub record In (y : Year) (s : State) : Type 0 where
-  pub is : y ≡ year_of s
-  pub can : Sensible s
-
-abbrev pub is_over : Stage → Bool
+abbrev pub is_over : Year → Bool
 is_over Naming = false
-is_over Opening = false
-is_over Going = false
+is_over (Opening y) = false
+is_over (Going booked) = false
 is_over Over = true
+
+-- the program `months`
+abbrev pub kind : machine.Kind Year
+kind = record { machine = months; held = year_of; Can = Sensible; over = is_over }
+
+-- the session stands in this state
+abbrev pub In : Year → State → Type 0
+In y s = machine.In kind y s
+
+-- where a line leads, and how much was written
+pub record Stepped : Type 0 where
+  pub year : Year
+  pub wrote : ℕ

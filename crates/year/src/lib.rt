@@ -1,7 +1,9 @@
 // A year on one page: the step of `months` from line to line, and its twelve rows.
 #![tactic(auto)]
 
+mod booked;
 mod page;
 mod stages;
 
-pub use stages::{Stage, Stepped, Year, step, stop};
+pub use booked::Booked;
+pub use stages::Year;

@@ -1,305 +1,112 @@
-// The stages of a session: a state by value, and what a line and the end of the input do to it.
-ghost use Rattle.std.specs.Prelude.{◌≡◌, Bool, ◌+◌, ◌≤◌, Option, length};
+// The stages of a session: what a line and the end of the input do.
+ghost use Rattle.std.specs.Prelude.{◌≤◌, length};
 ghost use Rattle.machine.specs.AtHand.{row_of, LineFits};
-ghost use Rattle.machine.specs.Steps.{page_room, StoppedBy};
-ghost use Rattle.times.specs.declared.Form.{Form};
-ghost use Rattle.lines.specs.declared.Order.TheVariants.{Make};
-ghost use Rattle.year_lines.specs.declared.Slip.TheVariants.{Dated, Plain};
-ghost use Rattle.bookings.specs.Bookings.{History, date_ok};
-ghost use Rattle.year.specs.Prints.{State, first, named, going, months};
-ghost use Rattle.year.specs.States.{In, is_over};
-ghost use Rattle.year.specs.Parts.{beginning, at_stage, GoesOn, SteppedTo, AnswersSlip, TotalsTo, PageLaid, rows_room};
+ghost use Rattle.machine.specs.Steps.{page_room};
+ghost use Rattle.year.specs.States.{kind};
+ghost use Rattle.year.specs.Parts.{YearTaken, MarksTaken};
 
-use crate::page;
-use changes;
-use changes::Call;
-use dates::Date;
+use crate::booked::Booked;
 use desk;
 use lines::Order;
 use machine;
-use machine::Line;
-use sheet::Sheet;
-use totals;
+use machine::{Line, Program};
+use refusals::Refusal;
 use year_lines;
 use year_lines::Slip;
 
-// In front of line 1, in front of line 2, behind it, or over.
+// In front of line 1, in front of line 2 with the year that line 1 named, behind it with what is booked, or over.
 #[derive(Clone, Copy)]
-pub enum Stage {
+pub enum Year {
     Naming,
-    Opening,
-    Going,
+    Opening(usize),
+    Going(Booked),
     Over,
 }
 
-// Where a session stands: whether a dated line has come, the sheet as of the last accepted line, the last accepted date (before there is one, the first
-// of January), and the totals of the months before its month.
-#[derive(Clone, Copy)]
-pub struct Year {
-    pub stage: Stage,
-    pub dated: bool,
-    pub sheet: Sheet,
-    pub last: Date,
-    pub closed: [u64; 12],
-}
-
-// Where a line leads, and how much was written.
-#[derive(Clone, Copy)]
-pub struct Stepped {
-    pub year: Year,
-    pub wrote: usize,
-}
-
-// A year of which nothing is booked.
-fn begun(stage: Stage, year: usize, sheet: Sheet) -> Year
-    ensures { result ≡ beginning stage year sheet }
-{
-    let last = Date {
-        year,
-        month: 1,
-        day: 1,
-    };
-    Year {
-        stage,
-        dated: false,
-        sheet,
-        last,
-        closed: [0u64; 12],
-    }
-}
-
 impl Year {
-    // In front of line 1.
-    pub fn new() -> Year
-        ensures { In result first }
+    // Line 1 has ended.
+    fn year_line(&mut self, line: &Line, out: &mut [u8]) -> usize
+        requires line_fits { LineFits line.now }
+        requires page_room_in_bounds { page_room ≤ length out.old }
+        ensures { YearTaken line.now.number (row_of line.now) out.old self.new result out.new }
     {
-        begun(Stage::Naming, 0, Sheet::opened(1))
+        match year_lines::year_of(*line) {
+            Some(year) => {
+                *self = Year::Opening(year);
+                0
+            }
+            None => {
+                *self = Year::Over;
+                machine::refusal(out, line.number, 10)
+            }
+        }
     }
 
-    // Nothing more will be printed.
-    pub fn is_over(self) -> bool
-        ensures { result ≡ is_over self.stage }
+    // Line 2 has ended.
+    fn marks_line(&mut self, year: usize, line: &Line, out: &mut [u8]) -> usize
+        requires line_fits { LineFits line.now }
+        requires page_room_in_bounds { page_room ≤ length out.old }
+        ensures { MarksTaken year line.now.number (row_of line.now) out.old self.new result out.new }
     {
-        let stage = self.stage;
-        match stage {
-            Stage::Naming => false,
-            Stage::Opening => false,
-            Stage::Going => false,
-            Stage::Over => true,
+        match desk::first_answer(line) {
+            Ok(sheet) => {
+                *self = Year::Going(Booked::new(year, sheet));
+                0
+            }
+            Err(refused) => {
+                *self = Year::Over;
+                machine::refusal(out, line.number, refused.refusal.number())
+            }
         }
     }
 }
 
-impl Year {
-    // The same at this stage.
-    fn at_stage(self, stage: Stage, dated: bool) -> Year
-        ensures { result ≡ at_stage stage dated self }
-    {
-        let sheet = self.sheet;
-        let last = self.last;
-        let closed = self.closed;
-        Year {
-            stage,
-            dated,
-            sheet,
-            last,
-            closed,
+impl Program for Year {
+    ghost kind = { kind };
+
+    fn new() -> Year {
+        Year::Naming
+    }
+
+    fn is_over(&self) -> bool {
+        match self {
+            Year::Over => true,
+            Year::Naming | Year::Opening(_) | Year::Going(_) => false,
         }
     }
-}
 
-// Line 1 has ended.
-fn year_line(line: Line, out: &mut [u8]) -> Stepped
-    requires line_fits { LineFits line }
-    requires page_room_in_bounds { page_room ≤ length out.old }
-    ensures { SteppedTo line.number first (row_of line) out.old result out.new }
-{
-    let name = year_lines::year_of(line);
-    let sheet = Sheet::opened(1);
-    let Some(y) = name else {
-        let wrote = machine::refusal(out, line.number, 10);
-        let year = begun(Stage::Over, 0, sheet);
-        return Stepped { year, wrote };
-    };
-    let year = begun(Stage::Opening, y, sheet);
-    Stepped { year, wrote: 0 }
-}
-
-// Line 2 has ended.
-fn marks_line(y: usize, line: Line, out: &mut [u8]) -> Stepped
-    requires line_fits { LineFits line }
-    requires page_room_in_bounds { page_room ≤ length out.old }
-    ensures { SteppedTo line.number (named y) (row_of line) out.old result out.new }
-{
-    let a = desk::first_answer(line);
-    let sheet = a.sheet;
-    let wrote = machine::spoken(out, line.number, a.number);
-    if a.number == 0 {
-        let year = begun(Stage::Going, y, sheet);
-        return Stepped { year, wrote };
-    }
-    let year = begun(Stage::Over, y, sheet);
-    Stepped { year, wrote }
-}
-
-// Whether a line may have this date: there is such a day, it is of the year, and it is not earlier than the last.
-fn in_order(date: Date, last: Date) -> bool
-    ensures { result ≡ date_ok last.year last date }
-{
-    if !date.is_day() {
-        return false;
-    }
-    if date.year != last.year {
-        return false;
-    }
-    !date.is_earlier(last)
-}
-
-// The totals of the months before this one. The total is asked for only where a month is over.
-fn totals_to(y: Year, month: usize) -> [u64; 12]
-    requires goes_on { GoesOn y }
-    requires month_le_month { (y.last.month ≤ month) × (month ≤ 13) }
-    ensures { TotalsTo y month result }
-{
-    let last = y.last;
-    let closed = y.closed;
-    if last.month == month {
-        return closed;
-    }
-    let sheet = y.sheet;
-    let total = totals::total(sheet);
-    page::close_months(closed, last.month, month, total.value)
-}
-
-// A call without a date: part of the opening stock, and unreadable behind a dated line.
-fn undated(y: Year, call: Call, number: u64, out: &mut [u8]) -> Stepped
-    requires goes_on { GoesOn y }
-    requires page_room_in_bounds { page_room ≤ length out.old }
-    ensures { (f : Option Form) → AnswersSlip y number (Plain (Make call f)) out.old result out.new }
-{
-    if y.dated {
-        let wrote = machine::refusal(out, number, 10);
-        return Stepped { year: y, wrote };
-    }
-    let old = y.sheet;
-    let a = changes::did(old, call);
-    let wrote = machine::spoken(out, number, a.number);
-    let sheet = a.sheet;
-    let last = y.last;
-    let closed = y.closed;
-    let year = Year {
-        stage: Stage::Going,
-        dated: false,
-        sheet,
-        last,
-        closed,
-    };
-    Stepped { year, wrote }
-}
-
-// A call on a day.
-fn on_day(y: Year, date: Date, call: Call, number: u64, out: &mut [u8]) -> Stepped
-    requires goes_on { GoesOn y }
-    requires page_room_in_bounds { page_room ≤ length out.old }
-    ensures { (f : Option Form) → AnswersSlip y number (Dated date call f) out.old result out.new }
-{
-    let begun = y.at_stage(Stage::Going, true);
-    let last = y.last;
-    if !in_order(date, last) {
-        let wrote = machine::refusal(out, number, 11);
-        return Stepped { year: begun, wrote };
-    }
-    let old = y.sheet;
-    let a = changes::did(old, call);
-    let wrote = machine::spoken(out, number, a.number);
-    if a.number != 0 {
-        return Stepped { year: begun, wrote };
-    }
-    let closed = totals_to(y, date.month);
-    let sheet = a.sheet;
-    let year = Year {
-        stage: Stage::Going,
-        dated: true,
-        sheet,
-        last: date,
-        closed,
-    };
-    Stepped { year, wrote }
-}
-
-// The twelve rows.
-fn put_page(y: Year, out: &mut [u8], at: usize) -> usize
-    requires goes_on { GoesOn y }
-    requires rows_room_in_bounds { at + rows_room ≤ length out.old }
-    ensures { PageLaid y out.old at result out.new }
-{
-    let totals = totals_to(y, 13);
-    page::put_rows(out, at, &totals)
-}
-
-// A line without a date.
-fn plain(y: Year, order: Order, number: u64, out: &mut [u8]) -> Stepped
-    requires goes_on { GoesOn y }
-    requires page_room_in_bounds { page_room ≤ length out.old }
-    ensures { AnswersSlip y number (Plain order) out.old result out.new }
-{
-    match order {
-        Order::Make(call, _) => undated(y, call, number, out),
-        Order::Unreadable => {
-            let wrote = machine::refusal(out, number, 10);
-            Stepped { year: y, wrote }
-        }
-        Order::End => {
-            let wrote = put_page(y, out, 0);
-            let year = y.at_stage(Stage::Over, false);
-            Stepped { year, wrote }
+    fn step(&mut self, line: &Line, out: &mut [u8]) -> usize {
+        match self {
+            Year::Naming => self.year_line(line, out),
+            Year::Opening(year) => {
+                let year = *year;
+                self.marks_line(year, line, out)
+            }
+            Year::Going(booked) => {
+                let answer = match year_lines::slip_of(*line, booked.sheet.marks) {
+                    Slip::Dated(date, call, _) => booked.on_day(date, call),
+                    Slip::Plain(Order::Make(call, _)) => booked.undated(call),
+                    Slip::Plain(Order::Unreadable) => Err(Refusal::Unreadable(0)),
+                    Slip::Plain(Order::End) => {
+                        let wrote = booked.put_page(out, 0);
+                        *self = Year::Over;
+                        return wrote;
+                    }
+                };
+                desk::spoken(out, line.number, answer)
+            }
+            Year::Over => 0,
         }
     }
-}
 
-// A line behind line 2 has ended.
-fn later_line(y: Year, line: Line, out: &mut [u8]) -> Stepped
-    requires goes_on { GoesOn y }
-    requires line_fits { LineFits line }
-    requires page_room_in_bounds { page_room ≤ length out.old }
-    ensures { (b : Bool) (h : History) → In y (going b h) → SteppedTo line.number (going b h) (row_of line) out.old result out.new }
-{
-    let sheet = y.sheet;
-    let slip = year_lines::slip_of(line, sheet.marks);
-    match slip {
-        Slip::Dated(date, call, _) => on_day(y, date, call, line.number, out),
-        Slip::Plain(order) => plain(y, order, line.number, out),
+    fn stop(&self, out: &mut [u8], at: usize) -> usize {
+        match self {
+            Year::Going(booked) => booked.put_page(out, at),
+            Year::Naming => at,
+            Year::Opening(_) => at,
+            Year::Over => at,
+        }
     }
-}
 
-// The line at hand has ended.
-pub fn step(y: Year, line: Line, out: &mut [u8]) -> Stepped
-    requires stands { (s : State) × In y s }
-    requires line_fits { LineFits line }
-    requires page_room_in_bounds { page_room ≤ length out.old }
-    ensures { (s : State) → In y s → SteppedTo line.number s (row_of line) out.old result out.new }
-{
-    let stage = y.stage;
-    let last = y.last;
-    match stage {
-        Stage::Naming => year_line(line, out),
-        Stage::Opening => marks_line(last.year, line, out),
-        Stage::Going => later_line(y, line, out),
-        Stage::Over => Stepped { year: y, wrote: 0 },
-    }
-}
-
-// The input is at its end: the rows, if there was a `marks`.
-pub fn stop(y: Year, out: &mut [u8], at: usize) -> usize
-    requires stands { (s : State) × In y s }
-    requires page_room_in_bounds { at + page_room ≤ length out.old }
-    ensures { (s : State) → In y s → StoppedBy months s out.old at result out.new }
-{
-    let stage = y.stage;
-    match stage {
-        Stage::Naming => at,
-        Stage::Opening => at,
-        Stage::Going => put_page(y, out, at),
-        Stage::Over => at,
-    }
+    fn laws() {}
 }
