@@ -17,7 +17,7 @@ mod walk;
 use room::{InRoom, Room};
 use simplex::{Entering, Simplex};
 
-// What each combination weighs, `plus - minus` in parts of 65536.
+// What each combination weighs, `plus - minus` in parts of 65536. Two tables and no table of pairs: a sum takes one of them alone.
 #[derive(Clone, Copy)]
 pub struct Weights {
     pub plus: [u32; 32],
