@@ -1,7 +1,7 @@
 // The desk: what a line leads to and prints, and what the end of the input prints.
 ghost use Rattle.std.specs.Prelude.{◌≡◌, ◌+◌, ◌≤◌, length};
 ghost use Rattle.sheet.specs.Record.{Record};
-ghost use Rattle.machine.specs.AtHand.{row_of, LineFits};
+ghost use Rattle.machine.specs.AtHand.{told, row_of};
 ghost use Rattle.machine.specs.Steps.{page_room, StoppedBy};
 ghost use Rattle.desk.specs.Prints.{State, first, going, holdings};
 ghost use Rattle.desk.specs.States.{In, is_over, SteppedTo};
@@ -64,10 +64,9 @@ impl Desk {
 
 // What the line at hand is answered as line 1, and the sheet that it opens.
 pub fn first_answer(line: Line) -> Answer
-    requires { LineFits line }
-    ensures { FirstAnswered (row_of line) result }
+    ensures { FirstAnswered (row_of (told line)) result }
 {
-    let first = lines::first_of(line);
+    let first = lines::first_of(&line);
     let Some(m) = first else {
         let sheet = Sheet::opened(1);
         return Answer { number: 10, sheet };
@@ -85,9 +84,8 @@ fn led_to(stage: Stage, sheet: Sheet, wrote: usize) -> Stepped
 
 // Line 1 has ended.
 fn first_line(line: Line, out: &mut [u8]) -> Stepped
-    requires line_fits { LineFits line }
     requires page_room_in_bounds { page_room ≤ length out.old }
-    ensures { SteppedTo line.number first (row_of line) out.old result out.new }
+    ensures { SteppedTo line.number first (row_of (told line)) out.old result out.new }
 {
     let a = first_answer(line);
     let sheet = a.sheet;
@@ -101,12 +99,11 @@ fn first_line(line: Line, out: &mut [u8]) -> Stepped
 // A later line has ended.
 fn later_line(old: Sheet, line: Line, out: &mut [u8]) -> Stepped
     requires sheet_of_record { SheetOfRecord old }
-    requires line_fits { LineFits line }
     requires page_room_in_bounds { page_room ≤ length out.old }
-    ensures { (q : Record) → OfRecord old q → SteppedTo line.number (going q) (row_of line) out.old result out.new }
+    ensures { (q : Record) → OfRecord old q → SteppedTo line.number (going q) (row_of (told line)) out.old result out.new }
 {
     let m = old.marks;
-    let order = lines::order_of(line, m);
+    let order = lines::order_of(&line, m);
     match order {
         Order::Make(call, _) => {
             let a = changes::did(old, call);
@@ -128,9 +125,8 @@ fn later_line(old: Sheet, line: Line, out: &mut [u8]) -> Stepped
 // The line at hand has ended.
 pub fn step(d: Desk, line: Line, out: &mut [u8]) -> Stepped
     requires stands { (s : State) × In d s }
-    requires line_fits { LineFits line }
     requires page_room_in_bounds { page_room ≤ length out.old }
-    ensures { (s : State) → In d s → SteppedTo line.number s (row_of line) out.old result out.new }
+    ensures { (s : State) → In d s → SteppedTo line.number s (row_of (told line)) out.old result out.new }
 {
     let stage = d.stage;
     let sheet = d.sheet;

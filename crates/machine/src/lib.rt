@@ -3,6 +3,7 @@
 
 mod line;
 mod refusals;
+mod taking;
 
-pub use line::{Cut, Line};
-pub use refusals::{put_pair, refusal, spoken};
+pub use line::Line;
+pub use refusals::{put_both, put_pair, put_refusal, put_spoken, refusal, spoken};

@@ -4,7 +4,10 @@ ghost use Rattle.ground.specs.Areas.{Wrote};
 ghost use Rattle.ground.specs.Texts.{ascii};
 ghost use Rattle.print.specs.Texts.{decimal};
 ghost use Rattle.machine.specs.Machine.{refusal as refusal_text, spoken as spoken_text};
+ghost use Rattle.print.specs.Pages.{Puts, HasRoom};
 ghost use Rattle.machine.specs.AtHand.{refusal_room};
+
+use print::Page;
 
 // A word, a number, what stands between, a number and a newline.
 pub fn put_pair(out: &mut [u8], at: usize, word: &[u8], x: u64, between: &[u8], y: u64) -> usize
@@ -35,4 +38,34 @@ pub fn spoken(out: &mut [u8], number: u64, answer: u64) -> usize
         return 0;
     }
     refusal(out, number, answer)
+}
+
+// A word, a number, what stands between, a number and a newline, on a page.
+pub fn put_both(page: &mut Page, word: &[u8], x: u64, between: &[u8], y: u64)
+    requires { HasRoom page.old (length word.now + length between.now + 41) }
+    ensures { Puts page.old page.new (word.now ++ decimal x ++ between.now ++ decimal y ++ ascii "\n") }
+{
+    page.put(word);
+    page.put_number(x);
+    page.put(between);
+    page.put_number(y);
+    page.put_byte(b'\n');
+}
+
+// `refused K A`, on a page.
+pub fn put_refusal(page: &mut Page, number: u64, answer: u64)
+    requires { HasRoom page.old refusal_room }
+    ensures { Puts page.old page.new (refusal_text number answer) }
+{
+    put_both(page, b"refused ", number, b" ", answer);
+}
+
+// The same, where there is something to refuse.
+pub fn put_spoken(page: &mut Page, number: u64, answer: u64)
+    requires { HasRoom page.old refusal_room }
+    ensures { Puts page.old page.new (spoken_text number answer) }
+{
+    if answer != 0 {
+        put_refusal(page, number, answer);
+    }
 }

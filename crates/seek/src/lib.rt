@@ -113,7 +113,8 @@ impl Search<'_> {
     }
 }
 
-// The first shortest list that covers `need` inside `room`, at the front of the area: how many boxes it has.
+// The first shortest list that covers `need` inside `room`, at the front of the area: how many boxes it has. The number is answered, as
+// `Sought` says, and the list is not lent.
 pub fn shortest(m: usize, need: u32, room: u32, area: &mut [u8]) -> usize
     requires { Askable m need room area.old }
     ensures { Sought m (has need) (has room) result area.new }

@@ -1,6 +1,6 @@
 // The programs: which one runs, where it stands, and what a line and the end of the input do. A program is a row of each.
 ghost use Rattle.std.specs.Prelude.{◌≡◌, ◌+◌, ◌≤◌, length};
-ghost use Rattle.machine.specs.AtHand.{row_of, LineFits};
+ghost use Rattle.machine.specs.AtHand.{told, row_of};
 ghost use Rattle.machine.specs.Steps.{page_room};
 ghost use Rattle.sessions.specs.Programs.{machine_of, In, Runs, is_over, Steps, Stops};
 
@@ -57,9 +57,8 @@ impl Program {
     // The line at hand has ended.
     pub fn step(self, line: Line, out: &mut [u8]) -> Stepped
         requires runs { Runs self }
-        requires line_fits { LineFits line }
         requires page_room_in_bounds { page_room ≤ length out.old }
-        ensures { Steps self line.number (row_of line) out.old result out.new }
+        ensures { Steps self line.number (row_of (told line)) out.old result out.new }
     {
         let kind = self.kind;
         let desk = self.desk;

@@ -55,14 +55,13 @@ pub fn feed(s: Session, piece: &[u8], out: &mut [u8]) -> Fed
     ensures { Feeds s piece.now out.old result out.new }
 {
     let program = s.program;
-    let begun = s.line;
-    let cut = begun.take(piece);
-    let line = cut.line;
-    if !cut.ended {
+    let mut line = s.line;
+    let (used, ended) = line.take(piece);
+    if !ended {
         let session = Session { line, program };
         return Fed {
             session,
-            used: cut.used,
+            used,
             wrote: 0,
         };
     }
@@ -75,7 +74,7 @@ pub fn feed(s: Session, piece: &[u8], out: &mut [u8]) -> Fed
     };
     Fed {
         session,
-        used: cut.used,
+        used,
         wrote: t.wrote,
     }
 }
@@ -86,11 +85,11 @@ pub fn finish(s: Session, out: &mut [u8]) -> usize
     ensures { Closes s out.old result out.new }
 {
     let program = s.program;
-    let begun = s.line;
-    if begun.is_none() {
+    let mut line = s.line;
+    if line.is_none() {
         return program.stop(out, 0);
     }
-    let line = begun.cut_off();
+    line.cut_off();
     let t = program.step(line, out);
     let after = t.program;
     after.stop(out, t.wrote)

@@ -1,6 +1,6 @@
 // The stages of a session: a state by value, and what a line and the end of the input do to it.
 ghost use Rattle.std.specs.Prelude.{◌≡◌, Bool, ◌+◌, ◌≤◌, Option, length};
-ghost use Rattle.machine.specs.AtHand.{row_of, LineFits};
+ghost use Rattle.machine.specs.AtHand.{told, row_of};
 ghost use Rattle.machine.specs.Steps.{page_room, StoppedBy};
 ghost use Rattle.times.specs.declared.Form.{Form};
 ghost use Rattle.lines.specs.declared.Order.TheVariants.{Make};
@@ -110,11 +110,10 @@ impl Year {
 
 // Line 1 has ended.
 fn year_line(line: Line, out: &mut [u8]) -> Stepped
-    requires line_fits { LineFits line }
     requires page_room_in_bounds { page_room ≤ length out.old }
-    ensures { SteppedTo line.number first (row_of line) out.old result out.new }
+    ensures { SteppedTo line.number first (row_of (told line)) out.old result out.new }
 {
-    let name = year_lines::year_of(line);
+    let name = year_lines::year_of(&line);
     let sheet = Sheet::opened(1);
     let Some(y) = name else {
         let wrote = machine::refusal(out, line.number, 10);
@@ -127,9 +126,8 @@ fn year_line(line: Line, out: &mut [u8]) -> Stepped
 
 // Line 2 has ended.
 fn marks_line(y: usize, line: Line, out: &mut [u8]) -> Stepped
-    requires line_fits { LineFits line }
     requires page_room_in_bounds { page_room ≤ length out.old }
-    ensures { SteppedTo line.number (named y) (row_of line) out.old result out.new }
+    ensures { SteppedTo line.number (named y) (row_of (told line)) out.old result out.new }
 {
     let a = desk::first_answer(line);
     let sheet = a.sheet;
@@ -260,12 +258,11 @@ fn plain(y: Year, order: Order, number: u64, out: &mut [u8]) -> Stepped
 // A line behind line 2 has ended.
 fn later_line(y: Year, line: Line, out: &mut [u8]) -> Stepped
     requires goes_on { GoesOn y }
-    requires line_fits { LineFits line }
     requires page_room_in_bounds { page_room ≤ length out.old }
-    ensures { (b : Bool) (h : History) → In y (going b h) → SteppedTo line.number (going b h) (row_of line) out.old result out.new }
+    ensures { (b : Bool) (h : History) → In y (going b h) → SteppedTo line.number (going b h) (row_of (told line)) out.old result out.new }
 {
     let sheet = y.sheet;
-    let slip = year_lines::slip_of(line, sheet.marks);
+    let slip = year_lines::slip_of(&line, sheet.marks);
     match slip {
         Slip::Dated(date, call, _) => on_day(y, date, call, line.number, out),
         Slip::Plain(order) => plain(y, order, line.number, out),
@@ -275,9 +272,8 @@ fn later_line(y: Year, line: Line, out: &mut [u8]) -> Stepped
 // The line at hand has ended.
 pub fn step(y: Year, line: Line, out: &mut [u8]) -> Stepped
     requires stands { (s : State) × In y s }
-    requires line_fits { LineFits line }
     requires page_room_in_bounds { page_room ≤ length out.old }
-    ensures { (s : State) → In y s → SteppedTo line.number s (row_of line) out.old result out.new }
+    ensures { (s : State) → In y s → SteppedTo line.number s (row_of (told line)) out.old result out.new }
 {
     let stage = y.stage;
     let last = y.last;

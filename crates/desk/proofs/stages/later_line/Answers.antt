@@ -6,7 +6,7 @@ use Rattle.desk.proofs.Steps.{later_made, later_unread, later_ended}
 use Rattle.desk.proofs.stages.later_line.Goals as goal
 
 pub order_of-order-requires : goal.order_of-order-requires
-order_of-order-requires c = record { line_fits = c.requires.line_fits; m_bound = omega (arith, sheet_marks c.requires.sheet_of_record.1) }
+order_of-order-requires c = omega (arith, sheet_marks c.requires.sheet_of_record.1)
 
 pub returns-in-Make : goal.returns-in-Make
 returns-in-Make c q of =

@@ -4,7 +4,7 @@ use Rattle.desk.proofs.Steps.{of_record, step_first, step_later, step_over}
 use Rattle.desk.proofs.stages.step.Goals as goal
 
 pub later_line-requires : goal.later_line-requires
-later_line-requires c = record { sheet_of_record = (record_in c.requires.stands.0, of_record c.requires.stands.1); line_fits = c.requires.line_fits; page_room_in_bounds = c.requires.page_room_in_bounds }
+later_line-requires c = record { sheet_of_record = (record_in c.requires.stands.0, of_record c.requires.stands.1); page_room_in_bounds = c.requires.page_room_in_bounds }
 
 pub returns-in-Opening : goal.returns-in-Opening
 returns-in-Opening c = λ s i. step_first s i c.in-Opening.is c.first_line.ensures

@@ -3,7 +3,7 @@ use Rattle.year.proofs.Steps.{goes_on, step_first, step_marks, step_later, step_
 use Rattle.year.proofs.stages.step.Goals as goal
 
 pub later_line-requires : goal.later_line-requires
-later_line-requires c = record { goes_on = goes_on c.requires.stands.0 c.requires.stands.1 c.in-Going.is; line_fits = c.requires.line_fits; page_room_in_bounds = c.requires.page_room_in_bounds }
+later_line-requires c = record { goes_on = goes_on c.requires.stands.0 c.requires.stands.1 c.in-Going.is; page_room_in_bounds = c.requires.page_room_in_bounds }
 
 pub returns-in-Naming : goal.returns-in-Naming
 returns-in-Naming c = λ s i. step_first s i c.in-Naming.is c.year_line.ensures
