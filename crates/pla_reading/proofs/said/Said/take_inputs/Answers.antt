@@ -1,8 +1,7 @@
 -- A law for each way out.
-use native.Mathlib.Omega.{arith}
-use mathlib.Core.Path.{sym, ◌∙◌}
+use Rattle.std.proofs.Common.{arith, sym, ◌∙◌}
 use Rattle.pla_reading.proofs.Keeping.{inputs_again, inputs_wrong, inputs_kept}
-use Rattle.pla_reading.proofs.said.Said.with_inputs.Goals as goal
+use Rattle.pla_reading.proofs.said.Said.take_inputs.Goals as goal
 
 pub returns-then-self-ne0 : goal.returns-then-self-ne0
 returns-then-self-ne0 c n e s kept = inputs_again s _ _ kept n (omega arith)

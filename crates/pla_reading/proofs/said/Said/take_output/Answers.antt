@@ -1,7 +1,7 @@
 -- A law for each way out.
-use native.Mathlib.Omega.{arith}
+use Rattle.std.proofs.Common.{arith}
 use Rattle.pla_reading.proofs.Keeping.{output_early, output_again, output_kept}
-use Rattle.pla_reading.proofs.said.Said.with_output.Goals as goal
+use Rattle.pla_reading.proofs.said.Said.take_output.Goals as goal
 
 pub returns-then-self-eq0 : goal.returns-then-self-eq0
 returns-then-self-eq0 c s kept = output_early s _ _ kept (omega arith)

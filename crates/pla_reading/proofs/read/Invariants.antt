@@ -1,8 +1,7 @@
--- The lines up to the offset are read (`Reached`); each line goes on, ends the reading, or is refused, as the laws of Lines say.
-use Prim.Native.Nat.{◌+◌, ◌-◌}
-use lib.ListN.{length}
+-- The lines up to the offset are read; each line goes on, ends the reading, or is refused, as the laws of Lines say.
+use Rattle.std.proofs.Common.{◌+◌, ◌-◌, length}
 use Rattle.pla_reading.proofs.Lines.{Reached}
-use Rattle.pla_reading.proofs.read_by.Given as goal
+use Rattle.pla_reading.proofs.read.Given as goal
 
 abbrev pub invariant-loop-at : goal.invariant-loop-at
 invariant-loop-at l = Reached l.text l.said l.at
