@@ -1,4 +1,4 @@
-use Rattle.std.proofs.Common.{length, take, arith, ap}
+use Rattle.std.proofs.Common.{arith, ap}
 use Rattle.std.proofs.lemmas.List.{take_all}
 use Rattle.print.proofs.Digits.{pattern-length}
 use Rattle.print.proofs.Pages.{puts_nothing, puts_text}
