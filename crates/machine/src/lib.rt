@@ -2,8 +2,8 @@
 #![tactic(auto)]
 
 mod line;
-mod refusals;
+mod said;
 mod taking;
 
 pub use line::Line;
-pub use refusals::{put_both, put_pair, put_refusal, put_spoken, refusal, spoken};
+pub use said::{put_both, put_pair, put_refusal, put_spoken, refusal, spoken};

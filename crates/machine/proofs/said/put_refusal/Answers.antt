@@ -1,6 +1,6 @@
 -- The pair of `refused`.
 use Rattle.machine.specs.Machine.{refusal}
-use Rattle.machine.proofs.refusals.put_refusal.Goals as goal
+use Rattle.machine.proofs.said.put_refusal.Goals as goal
 
 pub returns : goal.returns
 unfolding refusal

@@ -2,7 +2,7 @@
 use native.Mathlib.Omega.{arith}
 use Rattle.machine.proofs.Laid.{wrote_five}
 use Rattle.print.proofs.Digits.{number_room}
-use Rattle.machine.proofs.refusals.put_pair.Goals as goal
+use Rattle.machine.proofs.said.put_pair.Goals as goal
 
 pub put_number-b-requires : goal.put_number-b-requires
 put_number-b-requires c = omega (arith, number_room c.args.x (omega arith))

@@ -2,7 +2,7 @@
 use Rattle.std.proofs.Common.{arith}
 use Rattle.print.proofs.Digits.{number_room}
 use Rattle.print.proofs.Pages.{puts_then}
-use Rattle.machine.proofs.refusals.put_both.Goals as goal
+use Rattle.machine.proofs.said.put_both.Goals as goal
 
 pub put_number-requires : goal.put_number-requires
 put_number-requires c = omega (arith, number_room c.args.x (omega arith))
