@@ -44,30 +44,33 @@ fn plain() -> Certificate
     }
 }
 
-// What each box of the room costs by the weights, where none costs less than nothing; otherwise by weights of 0.
-fn certify(m: usize, sets: &[u32; 243], need: u32, room: u32, weights: &Weights) -> Certificate
+// What each box of the room costs by the weights, where none costs less than nothing; otherwise by weights of 0. It is written where it
+// stays, so that its 2 kB are not copied.
+fn certify(
+    m: usize,
+    sets: &[u32; 243],
+    need: u32,
+    room: u32,
+    weights: &Weights,
+    known: &mut Certificate,
+)
     requires { (m ≤ set_marks) × Sets m sets.now }
-    ensures { Certified m result.costs (has need) (has room) result.plus result.minus }
+    ensures { Certified m known.new.costs (has need) (has room) known.new.plus known.new.minus }
 {
-    let mut known = Certificate {
-        costs: [0; 243],
-        plus: 0,
-        minus: 0,
-    };
     for b in 0..boxes::power3(m) {
         let set = sets[b];
         if set & room == set {
             let plus = weight_of(set & need, &weights.plus);
             let minus = weight_of(set, &weights.minus);
             if WHOLE + minus < plus {
-                return plain();
+                *known = plain();
+                return;
             }
             known.costs[b] = WHOLE + minus - plus;
         }
     }
     known.plus = weight_of(room & need, &weights.plus);
     known.minus = weight_of(room, &weights.minus);
-    known
 }
 
 // By weights that are proposed, and checked here.
@@ -82,5 +85,7 @@ pub fn weighed(
     ensures { Certified m result.costs (has need) (has room) result.plus result.minus }
 {
     let proposed = weights::propose(sets, singles, need, room);
-    certify(m, sets, need, room, &proposed)
+    let mut known = plain();
+    certify(m, sets, need, room, &proposed, &mut known);
+    known
 }

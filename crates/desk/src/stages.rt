@@ -3,7 +3,7 @@ ghost use Rattle.std.specs.Prelude.{◌≡◌, ◌+◌, ◌≤◌, length};
 ghost use Rattle.ground.specs.Areas.{Wrote};
 ghost use Rattle.sheet.specs.Told.{opening_of};
 ghost use Rattle.machine.specs.Machine.{spoken as spoken_text};
-ghost use Rattle.machine.specs.AtHand.{row_of, refusal_room, LineFits};
+ghost use Rattle.machine.specs.AtHand.{told, row_of, refusal_room};
 ghost use Rattle.machine.specs.Steps.{page_room};
 ghost use Rattle.desk.specs.Prints.{first};
 ghost use Rattle.desk.specs.States.{kind};
@@ -28,10 +28,9 @@ pub enum Desk {
 
 // What the line at hand opens as line 1.
 pub fn first_answer(line: &Line) -> Result<Sheet, Refused>
-    requires { LineFits line.now }
-    ensures { FirstAnswered (row_of line.now) (opening_of result) }
+    ensures { FirstAnswered (row_of (told line.now)) (opening_of result) }
 {
-    let marks = lines::first_of(*line).ok_or(Refusal::Unreadable(0))?;
+    let marks = lines::first_of(line).ok_or(Refusal::Unreadable(0))?;
     Sheet::open(marks)
 }
 
@@ -49,9 +48,8 @@ pub fn spoken(out: &mut [u8], number: u64, answer: Result<(), Refusal>) -> usize
 impl Desk {
     // Line 1 has ended.
     fn first_line(&mut self, line: &Line, out: &mut [u8]) -> usize
-        requires line_fits { LineFits line.now }
-        requires page_room_in_bounds { page_room ≤ length out.old }
-        ensures { FirstTaken line.now.number (row_of line.now) out.old self.new result out.new }
+        requires { page_room ≤ length out.old }
+        ensures { FirstTaken line.now.number (row_of (told line.now)) out.old self.new result out.new }
     {
         match first_answer(line) {
             Ok(sheet) => {
@@ -84,7 +82,7 @@ impl Program for Desk {
         match self {
             Desk::Opening => self.first_line(line, out),
             Desk::Going(sheet) => {
-                let answer = match lines::order_of(*line, sheet.marks) {
+                let answer = match lines::order_of(line, sheet.marks) {
                     Order::Make(call, _) => changes::did(sheet, call),
                     Order::Unreadable => Err(Refusal::Unreadable(0)),
                     Order::End => {

@@ -2,7 +2,7 @@
 #![tactic(auto)]
 
 ghost use Rattle.std.specs.Prelude.{◌≡◌, ◌≢◌, ℕ, ◌≤◌, List, ◌++◌, MatchOption};
-ghost use Rattle.machine.specs.AtHand.{row_of, LineFits};
+ghost use Rattle.machine.specs.AtHand.{told, row_of};
 ghost use Rattle.lines.specs.Words.{Opens, Asked, RowOpens, RowAsks};
 ghost use Rattle.lines.specs.Parts.{Patterned, Amounts, SaysOrNot};
 
@@ -116,28 +116,22 @@ pub fn read_marks(line: &[u8]) -> Option<usize>
 }
 
 // What the line at hand asks for; one that is too long or cut off is unreadable.
-pub fn order_of(line: Line, m: usize) -> Order
-    requires line_fits { LineFits line }
-    requires m_bound { m ≤ 8 }
-    ensures { RowAsks m (row_of line) result }
+pub fn order_of(line: &Line, m: usize) -> Order
+    requires { m ≤ 8 }
+    ensures { RowAsks m (row_of (told line.now)) result }
 {
-    if line.long {
+    let Some(text) = line.text() else {
         return Order::Unreadable;
-    }
-    let len = line.len;
-    let text = line.text;
-    read(&text[..len], m)
+    };
+    read(text, m)
 }
 
-// What the line at hand says as line 1.
-pub fn first_of(line: Line) -> Option<usize>
-    requires { LineFits line }
-    ensures { RowOpens (row_of line) result }
+// How many marks the line at hand asks for as line 1.
+pub fn first_of(line: &Line) -> Option<usize>
+    ensures { RowOpens (row_of (told line.now)) result }
 {
-    if line.long {
+    let Some(text) = line.text() else {
         return None;
-    }
-    let len = line.len;
-    let text = line.text;
-    read_marks(&text[..len])
+    };
+    read_marks(text)
 }

@@ -1,60 +1,62 @@
--- Two lists compared place by place: as long as the places before i are equal, which is the smaller is settled by what follows.
-use mathlib.Core.Path.{◌≡◌, refl, sym, ap₂, ◌∙◌}
-use mathlib.Core.Bool.{true, false}
+-- Two lists compared place by place: as long as they are equal, which is the smaller is settled by what is left.
+use mathlib.Core.Path.{◌≡◌, refl, sym, ◌∙◌}
+use mathlib.Core.Bool.{false}
 use mathlib.Core.List.{List, [], ◌∷◌}
 use mathlib.Core.Logic.{◌⊎◌, inl, inr, ◌↔◌, ⊎_elim}
-use Prim.Native.Nat.{ℕ, suc, ◌+◌, ◌<◌, ◌≤◌}
-use native.Mathlib.Numerals.{add-one}
+use Prim.Native.Nat.{ℕ}
 use native.Mathlib.Omega.{arith}
-use lib.ListN.{length, drop, get_or, drop_of_length-le}
-use lib.Seq.{drop-cons}
+use lib.Dec.{ltb}
+use lib.ListN.{length}
+use borrow.Author.Tests.{ltb-true, lt-ltb}
 use Rattle.ground.specs.Decides.{Decides}
-use Rattle.ground.proofs.Cases.{decided_yes, decided_no, below_or, same_or}
+use Rattle.ground.proofs.Cases.{decided_no, below_or, same_or}
 use Rattle.lists.specs.Lists.{Smaller, Before}
 use Rattle.lists.specs.Compared.{HandsBack}
 
--- the rest from i on says which is the smaller
-abbrev pub RestSays : List ℕ → List ℕ → ℕ → Type 0
-RestSays a b i = Smaller a b ↔ Smaller (drop i a) (drop i b)
+-- what is left of two lists says which is the smaller
+pub record RestSays (a b rest_a rest_b : List ℕ) : Type 0 where
+  pub says : Smaller a b ↔ Smaller rest_a rest_b
 
-pub rest_start : (a b : List ℕ) → RestSays a b 0
-rest_start a b = (λ h. h, λ h. h)
+pub rest_start : (a b : List ℕ) → RestSays a b a b
+rest_start a b = record { says = (λ h. h, λ h. h) }
 
-module _ (a b : List ℕ) (i : ℕ) (rest : RestSays a b i) where
-  module _ (ha : i < length a) (hb : i < length b) where
-    opened : Smaller (drop i a) (drop i b) ≡ ((get_or a i 0 < get_or b i 0) ⊎ ((get_or a i 0 ≡ get_or b i 0) × Smaller (drop (suc i) a) (drop (suc i) b)))
-    unfolding Smaller
-    opened = ap₂ Smaller (drop-cons a i 0 ha) (drop-cons b i 0 hb)
+-- lists of another length
+pub longer : (a b : List ℕ) → (length a ≡ length b → ⊥) → Decides (ltb (length a) (length b)) (Before a b)
+longer a b n = record {
+  yes = λ e. inl (ltb-true (length a) (length b) e);
+  sure = λ h. lt-ltb (length a) (length b) (⊎_elim (λ x. x) (λ x. absurd (n x.0)) h);
+}
 
-    pub place_less : get_or a i 0 < get_or b i 0 → Smaller a b
-    place_less h = rest.1 (rw opened (inl h))
-
-    pub place_more : get_or b i 0 < get_or a i 0 → Smaller a b → ⊥
-    place_more h s = ⊎_elim (λ x. omega arith) (λ x. omega (arith, x.0)) (rw opened at (rest.0 s))
-
-    pub place_same : get_or b i 0 ≤ get_or a i 0 → get_or a i 0 ≤ get_or b i 0 → RestSays a b (i + 1)
-    place_same h g = rw (add-one i) (
-      λ s. ⊎_elim (λ x. absurd (omega arith)) (λ x. x.1) (rw opened at (rest.0 s)),
-      λ s. rest.1 (rw opened (inr (omega arith, s))),
-    )
-
-  pub rest_end : length a ≤ i → length b ≤ i → Smaller a b → ⊥
+module _ {a b r s l k : List ℕ} {x y : ℕ} (rest : RestSays a b r s) (first : r ≡ x ∷ l) (second : s ≡ y ∷ k) where
+  -- the first place where they differ
+  pub differs : length a ≡ length b → (x ≡ y → ⊥) → Decides (ltb x y) (Before a b)
   unfolding Smaller
-  rest_end ha hb s = rw (drop_of_length-le a ha, drop_of_length-le b hb) at (rest.0 s)
+  differs e n = record {
+    yes = λ t. inr (e, rest.says.1 (rw (first, second) (inl (ltb-true x y t))));
+    sure = λ h. ⊎_elim
+        (λ q. absurd (omega arith))
+        (λ q. lt-ltb x y (⊎_elim (λ z. z) (λ z. absurd (n z.0)) (rw (first, second) at (rest.says.0 q.1)))) h;
+  }
 
--- the answers
-module _ (a b : List ℕ) where
-  pub yes_shorter : length a < length b → Decides true (Before a b)
-  yes_shorter h = decided_yes refl (inl h)
+  pub goes_on : x ≡ y → RestSays a b l k
+  unfolding Smaller
+  goes_on e = record {
+    says = (
+      λ h. ⊎_elim (λ z. absurd (omega arith)) (λ z. z.1) (rw (first, second) at (rest.says.0 h)),
+      λ h. rest.says.1 (rw (first, second) (inr (e, h))),
+    );
+  }
 
-  pub no_longer : length b < length a → Decides false (Before a b)
-  no_longer h = decided_no refl (⊎_elim (λ x. omega arith) (λ x. omega (arith, x.0)))
-
-  pub yes_smaller : length a ≡ length b → Smaller a b → Decides true (Before a b)
-  yes_smaller e s = decided_yes refl (inr (e, s))
-
-  pub no_smaller : length a ≡ length b → (Smaller a b → ⊥) → Decides false (Before a b)
-  no_smaller e n = decided_no refl (⊎_elim (λ x. omega arith) (λ x. n x.1))
+-- no place is left
+pub rest_end : {a b r s : List ℕ} → RestSays a b r s → (length r ≡ 0) ⊎ (length s ≡ 0) → length a ≡ length b → Decides false (Before a b)
+unfolding Smaller
+rest_end {a} {b} {r} {s} rest none e = decided_no refl (⊎_elim (λ x. omega arith) (λ x. ended r s none (rest.says.0 x.1)))
+  where
+    ended : (r s : List ℕ) → (length r ≡ 0) ⊎ (length s ≡ 0) → Smaller r s → ⊥
+    ended [] [] n h = h
+    ended [] (y ∷ k) n h = h
+    ended (x ∷ l) [] n h = h
+    ended (x ∷ l) (y ∷ k) n h = ⊎_elim (λ w. omega arith) (λ w. omega arith) n
 
 -- every two lists are decided
 smaller_or : {P : Type 0} (l k : List ℕ) → (Smaller l k → P) → ((Smaller l k → ⊥) → P) → P

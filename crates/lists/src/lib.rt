@@ -19,21 +19,13 @@ pub fn most_lines(m: usize) -> usize
 pub fn is_before(a: &[u8], b: &[u8]) -> bool
     ensures { Decides result (Before a.now b.now) }
 {
-    if a.len() < b.len() {
-        return true;
+    if a.len() != b.len() {
+        return a.len() < b.len();
     }
-    if b.len() < a.len() {
-        return false;
-    }
-    let mut i: usize = 0;
-    while i < a.len() {
-        if a[i] < b[i] {
-            return true;
+    for (x, y) in a.iter().zip(b) {
+        if x != y {
+            return x < y;
         }
-        if b[i] < a[i] {
-            return false;
-        }
-        i += 1;
     }
     false
 }

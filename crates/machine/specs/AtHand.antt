@@ -1,8 +1,17 @@
 -- What the functions tell their callers of the line at hand: its number, and as much of it as has come.
 use Rattle.std.specs.Prelude.{ℕ, suc, ◌+◌, ◌≤◌, Bool, false, true, cond, ◌≡◌, List, [], ◌∷◌, eqb, ltb, length, take, set, replicate}
 use Rattle.machine.specs.Rows.{most_bytes, Row, whole, spoiled}
-use Rattle.machine.specs.declared.line.Line.{Line}
-use Rattle.machine.specs.declared.line.Cut.{Cut}
+use Rattle.machine.specs.declared.line.Line.{Line as Held}
+
+-- a line at hand, as it is told
+pub record Line : Type 0 where
+  pub number : ℕ
+  pub text : List ℕ
+  pub len : ℕ
+  pub long : Bool
+
+abbrev pub told : Held → Line
+told l = record { number = l.number; text = l.text; len = l.len; long = l.long }
 
 unfoldable pub row_of : Line → Row
 row_of l = cond l.long spoiled (whole (take l.len l.text))
@@ -27,7 +36,7 @@ typed_on l (b ∷ rest) = typed_on (pushed l b) rest
 abbrev pub typed : ℕ → List ℕ → Line
 typed k begun = typed_on (empty k) begun
 
--- what holds of every line at hand
+-- what holds of every line at hand (machine/src/line: its ghost fields)
 pub record LineFits (l : Line) : Type 0 where
   pub text : length l.text ≡ most_bytes
   pub len : l.len ≤ most_bytes
@@ -42,6 +51,14 @@ abbrev pub line_cut_off : Line → Line
 line_cut_off l = record { number = l.number; text = l.text; len = l.len; long = true }
 
 -- a piece taken up to and with its first newline, or all of it: the line then, how much was used, and whether the line has ended
+pub record Cut : Type 0 where
+  pub line : Line
+  pub used : ℕ
+  pub ended : Bool
+
+abbrev pub cut : Line → ℕ → Bool → Cut
+cut l used ended = record { line = l; used = used; ended = ended }
+
 abbrev pub one_more : Cut → Cut
 one_more c = record { line = c.line; used = suc c.used; ended = c.ended }
 

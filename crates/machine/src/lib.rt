@@ -3,8 +3,9 @@
 
 mod line;
 mod program;
-mod refusals;
+mod said;
+mod taking;
 
-pub use line::{Cut, Line};
+pub use line::Line;
 pub use program::Program;
-pub use refusals::{put_pair, refusal, spoken};
+pub use said::{put_both, put_pair, put_refusal, put_spoken, refusal, spoken};

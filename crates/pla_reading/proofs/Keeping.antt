@@ -5,6 +5,7 @@ use mathlib.Core.Bool.{Bool, true, false, ◌&&◌, ◌||◌, and-false}
 use mathlib.Core.List.{List, [], ◌∷◌, ◌++◌}
 use native.Mathlib.Omega.{arith}
 use lib.Bits.{bit_or}
+use Rattle.std.specs.Prelude.{Option, None, Some, is_some}
 use lib.Dec.{leb, ltb}
 use lib.ListN.{length, length-append}
 use borrow.Author.Tests.{eq-eqb, ne_eqb, lt-ltb, le-ltb, lt-leb}
@@ -19,15 +20,15 @@ use Rattle.stored.specs.Fields.{refused}
 use Rattle.pla.specs.Sayings.{inputs, output, count, cube}
 use Rattle.pla.specs.Reading.{Count, uncounted, counted, is_counted, Said as Saids, nothing_said, on, stop, judge}
 use Rattle.pla_lines.specs.Parts.{capped}
+use Rattle.pla_reading.specs.declared.said.Counted.{Counted}
 use Rattle.pla_reading.specs.declared.said.Said.{Said}
-use Rattle.pla_reading.specs.declared.said.Next.TheVariants.{On, Refused}
-use Rattle.pla_reading.specs.Parts.{KeepsCount, Keeps, Leads, goes, stops}
+use Rattle.pla_reading.specs.Parts.{On, Refused, KeepsCount, Keeps, Leads, goes, stops}
 
 nothing_covered : (m c : ℕ) → covered m [] c ≡ false
 unfolding covered
 nothing_covered m c = refl
 
-pub nothing_kept : Keeps nothing_said (record { inputs = 0; output = false; counted = false; count = 0; place = 0; cubes = 0; class = 0 })
+pub nothing_kept : Keeps nothing_said (record { inputs = 0; output = false; count = None; cubes = 0; class = 0 })
 nothing_kept = record {
   inputs = refl;
   most = omega arith;
@@ -48,9 +49,9 @@ marks_capped n =
     (λ h. rw (lt-leb (capped n) 5 (omega arith), lt-leb n 5 (omega arith), and-false (leb 1 (capped n)), and-false (leb 1 n)))
 
 -- nothing is told otherwise of a kept `.p` line
-count_told : (c : Count) (is : Bool) (n p : ℕ) → KeepsCount c is n p → is ≡ is_counted c
-count_told uncounted is n p e = e
-count_told (counted k at) is n p e = e.0
+count_told : (c : Count) (o : Option Counted) → KeepsCount c o → is_some o ≡ is_counted c
+count_told uncounted o e = ap is_some e
+count_told (counted k at) o e = ap is_some e
 
 module _ (s : Saids) (k : Said) (at : ℕ) (kept : Keeps s k) where
   -- `.i`
@@ -68,7 +69,7 @@ module _ (s : Saids) (k : Said) (at : ℕ) (kept : Keeps s k) where
       wrong size = rw (eq-eqb s.inputs 0 (sym kept.inputs ∙ z), sym (marks_capped n) ∙ ap (marks_ok most_marks) (sym e) ∙ w)
 
   pub inputs_kept : (n v : ℕ) → k.inputs ≡ 0 → v ≡ capped n → marks_ok most_marks v ≡ true
-      → Leads s at (inputs n) (On (record { inputs = v; output = k.output; counted = k.counted; count = k.count; place = k.place; cubes = k.cubes; class = k.class }))
+      → Leads s at (inputs n) (On (record { inputs = v; output = k.output; count = k.count; cubes = k.cubes; class = k.class }))
   inputs_kept n v z e w = goes right (omega arith) (record {
     inputs = v_is;
     most = subst (λ (x : ℕ). x ≤ most_marks) v_is few;
@@ -108,7 +109,7 @@ module _ (s : Saids) (k : Said) (at : ℕ) (kept : Keeps s k) where
       again size = rw (sym kept.output ∙ e, and-false (ltb 0 s.inputs))
 
   pub output_kept : (k.inputs ≡ 0 → ⊥) → k.output ≡ false
-      → Leads s at output (On (record { inputs = k.inputs; output = true; counted = k.counted; count = k.count; place = k.place; cubes = k.cubes; class = k.class }))
+      → Leads s at output (On (record { inputs = k.inputs; output = true; count = k.count; cubes = k.cubes; class = k.class }))
   output_kept d e = goes right (omega arith) (record {
     inputs = kept.inputs;
     most = kept.most;
@@ -128,27 +129,27 @@ module _ (s : Saids) (k : Said) (at : ℕ) (kept : Keeps s k) where
 
   -- `.p`
 
-  pub count_again : (n : ℕ) → k.counted ≡ true → Leads s at (count n) (Refused 10 at)
+  pub count_again : (n : ℕ) → is_some k.count ≡ true → Leads s at (count n) (Refused 10 at)
   count_again n e = stops again
     where
       again : (size : ℕ) → judge most_marks size s at (count n) ≡ stop (refused 10 at)
-      again size = rw (sym (count_told s.count k.counted k.count k.place kept.count) ∙ e)
+      again size = rw (sym (count_told s.count k.count kept.count) ∙ e)
 
-  pub count_kept : (n v : ℕ) → k.counted ≡ false → v ≡ capped n
-      → Leads s at (count n) (On (record { inputs = k.inputs; output = k.output; counted = true; count = v; place = at; cubes = k.cubes; class = k.class }))
+  pub count_kept : (n v : ℕ) → is_some k.count ≡ false → v ≡ capped n
+      → Leads s at (count n) (On (record { inputs = k.inputs; output = k.output; count = Some (record { number = v; at = at }); cubes = k.cubes; class = k.class }))
   count_kept n v e w = goes right (omega arith) (record {
     inputs = kept.inputs;
     most = kept.most;
     output = kept.output;
     order = kept.order;
     none = kept.none;
-    count = (refl, w, refl);
+    count = ap (λ (x : ℕ). Some (record { number = x; at = at })) w;
     cubes = kept.cubes;
     class = kept.class;
   })
     where
       right : (size : ℕ) → judge most_marks size s at (count n) ≡ on (record { inputs = s.inputs; output = s.output; count = counted n at; cubes = s.cubes })
-      right size = rw (sym (count_told s.count k.counted k.count k.place kept.count) ∙ e)
+      right size = rw (sym (count_told s.count k.count kept.count) ∙ e)
 
   -- a cube
 
@@ -159,7 +160,7 @@ module _ (s : Saids) (k : Said) (at : ℕ) (kept : Keeps s k) where
       early size = rw (sym kept.output ∙ e)
 
   pub cube_kept : (sets : List ℕ) → AllSets sets → (b : ℕ) → b < 3 ^ k.inputs → k.output ≡ true
-      → Leads s at (cube b) (On (record { inputs = k.inputs; output = k.output; counted = k.counted; count = k.count; place = k.place; cubes = k.cubes + 1; class = bit_or k.class (value_at sets b) }))
+      → Leads s at (cube b) (On (record { inputs = k.inputs; output = k.output; count = k.count; cubes = k.cubes + 1; class = bit_or k.class (value_at sets b) }))
   cube_kept sets table b l e = goes right fewer (record {
     inputs = kept.inputs;
     most = kept.most;

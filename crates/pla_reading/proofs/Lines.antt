@@ -12,7 +12,13 @@ use Rattle.ground.proofs.Cases.{below_or}
 use Rattle.sheet.specs.Limits.{most_marks, entries}
 use Rattle.stored.specs.Fields.{Outcome, refused}
 use Rattle.stored.specs.Answers.{read_of}
-use Rattle.stored.specs.Told.{Read}
+use Rattle.std.specs.Prelude.{Result, Ok, Err, IsErrAnd}
+use Rattle.refusals.specs.Numbers.{number_of, place_of}
+use Rattle.refusals.specs.declared.Refusal.{Refusal}
+use Rattle.sheet.specs.Answers.{refused as refused_sheet}
+use Rattle.sheet.specs.declared.Refused.{Refused as Refused_sheet}
+use Rattle.sheet.specs.declared.Sheet.{Sheet}
+use Rattle.stored.specs.Told.{Read, read_as}
 use Rattle.pla.specs.Texts.{between_from, before_comment, filled, lines_of, words_of}
 use Rattle.pla.specs.Sayings.{Saying, blank, inputs, output, count, cube, end, Says, no_word, dot_i, dot_o, dot_p, drawn, dot_e}
 use Rattle.pla.specs.Reading.{Said as Saids, nothing_said, comes_to, Run, over, unreadable, stopped, taken, PlaSays}
@@ -22,9 +28,7 @@ use Rattle.pla_lines.specs.Parts.{heard_as, Hears, said, unsaid}
 use Rattle.pla_lines.specs.declared.Heard.{Heard}
 use Rattle.pla_lines.proofs.FirstLine.{line_inside, lines_one, lines_first}
 use Rattle.pla_reading.specs.declared.said.Said.{Said}
-use Rattle.pla_reading.specs.declared.said.Next.{Next}
-use Rattle.pla_reading.specs.declared.said.Next.TheVariants.{On, End, Refused}
-use Rattle.pla_reading.specs.Parts.{Keeps, Leads, goes, ends, stops, InBoxes, Judged}
+use Rattle.pla_reading.specs.Parts.{Next, On, Ends, Refused, Keeps, Leads, goes, ends, stops, InBoxes, Judged}
 
 -- the lines from an offset on
 pub lines_left : List ℕ → ℕ → List (List ℕ)
@@ -103,13 +107,13 @@ same_on e = cc
 same_refused : {n p m q : ℕ} → Refused n p ≡ Refused m q → (n ≡ m) × (p ≡ q)
 same_refused e = (cc, cc)
 
-on_not_end : {k : Said} → On k ≡ End → ⊥
+on_not_end : {k : Said} → On k ≡ Ends → ⊥
 on_not_end {k} e = let z : ◌≡◌ {A = ℕ} 0 1 = cc in omega arith
 
 on_not_refused : {k : Said} {n p : ℕ} → On k ≡ Refused n p → ⊥
 on_not_refused {k} e = let z : ◌≡◌ {A = ℕ} 0 1 = cc in omega arith
 
-end_not_refused : {n p : ℕ} → End ≡ Refused n p → ⊥
+end_not_refused : {n p : ℕ} → Ends ≡ Refused n p → ⊥
 end_not_refused e = let z : ◌≡◌ {A = ℕ} 0 1 = cc in omega arith
 
 -- the line at an offset, of which h was heard, and which leads to r
@@ -153,10 +157,10 @@ module _ (t : List ℕ) (k : Said) (at : ℕ) (h : Heard) (r : Next) (reached : 
           let w = same_refused e in
           subst (λ (z : Outcome). PlaSays most_marks t z) (ap₂ refused w.0 w.1) (leads_line _ (stopped y (g (length t))))
 
-  pub line_ends : r ≡ End → PlaSays most_marks t (comes_to (length t) s)
+  pub line_ends : r ≡ Ends → PlaSays most_marks t (comes_to (length t) s)
   line_ends e = by_line (λ x y l. ended_by x y l e) (λ none q. absurd (end_not_refused (sym e ∙ q)))
     where
-      ended_by : {r : Next} (x : Saying) → Says s.inputs (words_of line) x → Leads s at x r → r ≡ End → PlaSays most_marks t (comes_to (length t) s)
+      ended_by : {r : Next} (x : Saying) → Says s.inputs (words_of line) x → Leads s at x r → r ≡ Ends → PlaSays most_marks t (comes_to (length t) s)
       ended_by x y (goes g f kept) e = absurd (on_not_end e)
       ended_by x y (ends z) e = leads_line _ (stopped (subst (Says s.inputs (words_of line)) z y) refl)
       ended_by x y (stops g) e = absurd (end_not_refused (sym e))
@@ -189,3 +193,9 @@ all_read t k at reached h = reached.leads _ (below_or (length t) at
 -- an answer is that of what the text says
 pub answered : {t : List ℕ} {a : Read} (o : Outcome) → PlaSays most_marks t o → a ≡ read_of entries o → ReadsPla most_marks entries t a
 answered o p e = record { outcome = o; run = p; is = e }
+
+-- what a `?` passes on
+pub refusal_read : {t : List ℕ} (result : Result Sheet Refused_sheet) (e : Refusal) → IsErrAnd result (λ r. r ≡ refused_sheet entries e)
+    → PlaSays most_marks t (refused (number_of e) (place_of e)) → ReadsPla most_marks entries t (read_as result)
+refusal_read (Ok s) e p w = absurd p
+refusal_read (Err r) e p w = answered _ w (ap (λ (x : Refused_sheet). read_as (Err x)) p)

@@ -1,5 +1,5 @@
 -- What the functions of the reader tell each other: what they keep of the lines that were read, and what a line leads to.
-use Rattle.std.specs.Prelude.{ℕ, ◌+◌, ◌^◌, ◌≤◌, ◌<◌, ◌≡◌, Bool, true, false, [], length}
+use Rattle.std.specs.Prelude.{ℕ, ◌+◌, ◌^◌, ◌≤◌, ◌<◌, ◌≡◌, Bool, true, false, cond, eqb, [], length, Option, None, Some, Result, Ok, Err}
 use Rattle.lists.specs.Lists.{covered}
 use Rattle.sets.specs.Sets.{has}
 use Rattle.sheet.specs.Limits.{most_marks, entries}
@@ -12,13 +12,14 @@ use Rattle.pla_lines.specs.Parts.{capped}
 use Rattle.pla_lines.specs.declared.Heard.{Heard}
 use Rattle.pla_lines.specs.declared.Heard.TheVariants.{Blank, Inputs, Output, Count as Counts, Cube, End, Unreadable}
 use Rattle.pla_reading.specs.declared.said.Said.{Said}
-use Rattle.pla_reading.specs.declared.said.Next.{Next}
-use Rattle.pla_reading.specs.declared.said.Next.TheVariants.{On, End as Ends, Refused}
+use Rattle.pla_reading.specs.declared.said.Counted.{Counted}
+use Rattle.refusals.specs.declared.Refusal.{Refusal}
+use Rattle.refusals.specs.Numbers.{number_of, place_of}
 
 -- the `.p` line as it is kept
-abbrev pub KeepsCount : Count → Bool → ℕ → ℕ → Type 0
-KeepsCount uncounted is n at = is ≡ false
-KeepsCount (counted k p) is n at = (is ≡ true) × (n ≡ capped k) × (at ≡ p)
+abbrev pub KeepsCount : Count → Option Counted → Type 0
+KeepsCount uncounted o = o ≡ None
+KeepsCount (counted k p) o = o ≡ Some (record { number = capped k; at = p })
 
 -- the lines so far have said s, which is kept as k
 pub record Keeps (s : Saids) (k : Said) : Type 0 where
@@ -27,9 +28,31 @@ pub record Keeps (s : Saids) (k : Said) : Type 0 where
   pub output : k.output ≡ s.output
   pub order : s.output ≡ true → 0 < s.inputs
   pub none : s.inputs ≡ 0 → s.cubes ≡ []
-  pub count : KeepsCount s.count k.counted k.count k.place
+  pub count : KeepsCount s.count k.count
   pub cubes : k.cubes ≡ length s.cubes
   pub class : has k.class ≡ covered s.inputs s.cubes
+
+-- what a line leads to: the lines behind it, with what is kept then; the end of the text; or a refusal, by its number and place
+pub data Next : Type 0 where
+  On : Said → Next
+  Ends : Next
+  Refused : ℕ → ℕ → Next
+
+-- as it is answered, and what is kept then
+
+abbrev pub next_of : Result (Unit {0}) Refusal → Said → Next
+next_of (Ok _) k = On k
+next_of (Err e) k = Refused (number_of e) (place_of e)
+
+abbrev pub judged_of : Result Bool Refusal → Said → Next
+judged_of (Ok true) k = On k
+judged_of (Ok false) k = Ends
+judged_of (Err e) k = Refused (number_of e) (place_of e)
+
+-- the offset of a `.p` line that has another number than that of the cubes
+abbrev pub miscount : Option Counted → ℕ → Option ℕ
+miscount None cubes = None
+miscount (Some c) cubes = cond (eqb c.number cubes) None (Some c.at)
 
 -- what a line at an offset leads to that says x
 pub data Leads (s : Saids) (at : ℕ) (x : Saying) : Next → Type 0 where

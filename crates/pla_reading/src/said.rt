@@ -1,35 +1,32 @@
 // What the lines of a PLA text have said so far, and what one more line makes of it.
-ghost use Rattle.std.specs.Prelude.{◌≡◌, not, ◌&&◌, ◌+◌, ◌<◌, ◌≤◌, ◌^◌, eqb};
-ghost use Rattle.sets.specs.Sets.{AllSets};
+ghost use Rattle.std.specs.Prelude.{◌≡◌, ◌+◌, ◌<◌, ◌≤◌, ◌^◌, false, IfOk};
 ghost use Rattle.sheet.specs.Limits.{most_marks};
+ghost use Rattle.stored.specs.Told.{read_as};
 ghost use Rattle.pla.specs.Reading.{nothing_said};
 ghost use Rattle.pla.specs.Sayings.{inputs, output, count, cube};
-ghost use Rattle.pla_reading.specs.Parts.{Keeps, Hearable, Makes, MakesOf, Judged, Comes};
+ghost use Rattle.pla_reading.specs.Parts.{Keeps, Hearable, Makes, MakesOf, Judged, Comes, next_of, judged_of, miscount};
 
 use pla_lines::Heard;
 use profiles::Profile;
-use sheet::Sheet;
-use stored::Read;
+use refusals::Refusal;
+use sheet::{Refused, Sheet};
 
-// The inputs, 0 before `.i`; whether `.o 1` has come; whether a `.p` line has, its number and its offset; how many cubes, and the set of their
+// A `.p` line: its number and its offset.
+#[derive(Clone, Copy, Debug, PartialEq, Eq)]
+pub struct Counted {
+    pub number: u64,
+    pub at: usize,
+}
+
+// The inputs, 0 before `.i`, as pla's `Said` has them and a line is heard by; whether `.o 1` has come; the `.p` line; how many cubes, and the set of their
 // combinations.
-#[derive(Clone, Copy)]
+#[derive(Clone, Copy, Debug, PartialEq, Eq)]
 pub struct Said {
     pub inputs: usize,
     pub output: bool,
-    pub counted: bool,
-    pub count: u64,
-    pub place: usize,
+    pub count: Option<Counted>,
     pub cubes: u64,
     pub class: u32,
-}
-
-// What a line leads to.
-#[derive(Clone, Copy)]
-pub enum Next {
-    On(Said),
-    End,
-    Refused(u64, usize),
 }
 
 impl Said {
@@ -39,114 +36,110 @@ impl Said {
         Said {
             inputs: 0,
             output: false,
-            counted: false,
-            count: 0,
-            place: 0,
+            count: None,
             cubes: 0,
             class: 0,
         }
     }
 
     // `.i`, at an offset.
-    fn with_inputs(mut self, at: usize, n: u64) -> Next
-        ensures { MakesOf self at inputs n result }
+    fn take_inputs(&mut self, at: usize, n: u64) -> Result<(), Refusal>
+        ensures { MakesOf self.old at inputs n (next_of result self.new) }
     {
         if self.inputs != 0 {
-            return Next::Refused(10, at);
+            return Err(Refusal::Unreadable(at));
         }
         if !sheet::marks_ok(n as usize) {
-            return Next::Refused(1, 0);
+            return Err(Refusal::Marks);
         }
         self.inputs = n as usize;
-        Next::On(self)
+        Ok(())
     }
 
     // `.o 1`
-    fn with_output(mut self, at: usize) -> Next
-        ensures { Makes self at output result }
+    fn take_output(&mut self, at: usize) -> Result<(), Refusal>
+        ensures { Makes self.old at output (next_of result self.new) }
     {
         if self.inputs == 0 {
-            return Next::Refused(10, at);
+            return Err(Refusal::Unreadable(at));
         }
         if self.output {
-            return Next::Refused(10, at);
+            return Err(Refusal::Unreadable(at));
         }
         self.output = true;
-        Next::On(self)
+        Ok(())
     }
 
     // `.p`
-    fn with_count(mut self, at: usize, n: u64) -> Next
-        ensures { MakesOf self at count n result }
+    fn take_count(&mut self, at: usize, number: u64) -> Result<(), Refusal>
+        ensures { MakesOf self.old at count number (next_of result self.new) }
     {
-        if self.counted {
-            return Next::Refused(10, at);
+        if self.count.is_some() {
+            return Err(Refusal::Unreadable(at));
         }
-        self.counted = true;
-        self.count = n;
-        self.place = at;
-        Next::On(self)
+        self.count = Some(Counted { number, at });
+        Ok(())
     }
 
-    // A cube; the table has the set of each box.
-    fn with_cube(mut self, at: usize, b: usize, sets: &[u32; 243]) -> Next
-        requires inputs_le_most_marks { (self.inputs ≤ most_marks) × (b < 3 ^ self.inputs) }
-        requires cubes_bound { self.cubes + 1 < 2 ^ 64 }
-        requires all_sets { AllSets sets.now }
-        ensures { Makes self at (cube b) result }
+    // A cube.
+    fn take_cube(&mut self, at: usize, b: usize) -> Result<(), Refusal>
+        requires box_of_inputs { (self.old.inputs ≤ most_marks) × (b < 3 ^ self.old.inputs) }
+        requires few { self.old.cubes + 1 < 2 ^ 64 }
+        ensures { Makes self.old at (cube b) (next_of result self.new) }
     {
         if !self.output {
-            return Next::Refused(10, at);
+            return Err(Refusal::Unreadable(at));
         }
-        self.cubes = self.cubes + 1;
-        self.class = self.class | sets[b];
-        Next::On(self)
+        self.cubes += 1;
+        self.class |= sets::sets()[b];
+        Ok(())
     }
 
-    // The line at an offset.
-    pub fn judged(self, at: usize, heard: Heard, sets: &[u32; 243]) -> Next
-        requires hearable { Hearable self heard }
-        requires all_sets { AllSets sets.now }
-        ensures { Judged self at heard result }
+    // The line at an offset: whether the text goes on behind it.
+    pub fn judge(&mut self, at: usize, heard: Heard) -> Result<bool, Refusal>
+        requires { Hearable self.old heard }
+        ensures leads { Judged self.old at heard (judged_of result self.new) }
+        ensures kept { IfOk result (λ goes_on. goes_on ≡ false → self.new ≡ self.old) }
     {
         match heard {
-            Heard::Blank => Next::On(self),
-            Heard::Inputs(n) => self.with_inputs(at, n),
-            Heard::Output => self.with_output(at),
-            Heard::Count(n) => self.with_count(at, n),
-            Heard::Cube(b) => self.with_cube(at, b, sets),
-            Heard::End => Next::End,
-            Heard::Unreadable => Next::Refused(10, at),
+            Heard::Blank => {}
+            Heard::Inputs(n) => self.take_inputs(at, n)?,
+            Heard::Output => self.take_output(at)?,
+            Heard::Count(n) => self.take_count(at, n)?,
+            Heard::Cube(b) => self.take_cube(at, b)?,
+            Heard::End => return Ok(false),
+            Heard::Unreadable => return Err(Refusal::Unreadable(at)),
         }
+        Ok(true)
     }
 
-    // Whether a `.p` line has another number than that of the cubes.
-    fn miscounts(self) -> bool
-        ensures { result ≡ (self.counted && not (eqb self.count self.cubes)) }
+    // The offset of a `.p` line that has another number than that of the cubes.
+    fn miscounted(&self) -> Option<usize>
+        ensures { result ≡ miscount self.now.count self.now.cubes }
     {
-        self.counted && self.count != self.cubes
+        let count = self.count?;
+        if count.number == self.cubes {
+            return None;
+        }
+        Some(count.at)
     }
 
     // What was said in all, at the end of an input of so many bytes.
-    pub fn comes_to(self, size: usize) -> Read
-        requires { (self.inputs ≤ most_marks) × (self.cubes + 1 < 2 ^ 64) }
-        ensures { Comes self size result }
+    pub fn comes_to(&self, size: usize) -> Result<Sheet, Refused>
+        requires { (self.now.inputs ≤ most_marks) × (self.now.cubes + 1 < 2 ^ 64) }
+        ensures { Comes self.now size (read_as result) }
     {
         if self.inputs == 0 {
-            return Read::refused(10, size);
+            return Err(Refusal::Unreadable(size).into());
         }
         if !self.output {
-            return Read::refused(10, size);
+            return Err(Refusal::Unreadable(size).into());
         }
-        if self.miscounts() {
-            return Read::refused(10, self.place);
+        if let Some(at) = self.miscounted() {
+            return Err(Refusal::Unreadable(at).into());
         }
         let outs = sets::outs_of(self.class);
         let none = [0u32; 32];
-        Read {
-            number: 0,
-            place: 0,
-            sheet: Sheet::afresh(self.inputs, Profile::None, &outs, &none, &none),
-        }
+        Ok(Sheet::afresh(self.inputs, Profile::None, &outs, &none, &none))
     }
 }

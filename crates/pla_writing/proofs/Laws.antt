@@ -7,10 +7,11 @@ use native.Mathlib.Numerals.{add-one}
 use native.Mathlib.Omega.{arith}
 use lib.ListN.{length, get_or, take, length-append}
 use lib.Seq.{take-suc, length-take-le}
-use Rattle.ground.specs.Areas.{Wrote}
 use Rattle.ground.specs.Texts.{ascii}
-use Rattle.ground.proofs.Areas.{wrote_then, wrote_text}
 use Rattle.print.specs.Texts.{decimal, pattern}
+use Rattle.print.specs.Pages.{Puts}
+use Rattle.print.specs.declared.page.Page.{Page}
+use Rattle.print.proofs.Pages.{puts_then, puts_text}
 use Rattle.print.proofs.Digits.{decimal_small, decimal_more, pattern-length}
 use Rattle.pla.specs.Writing.{cube_lines, pla_text}
 
@@ -80,24 +81,14 @@ module _ (m : ℕ) (l : List ℕ) (i : ℕ) (h : i < length l) where
         mul-le-mul_right {m = suc i} {n = length l} (m + 3) h,
       )
 
-  pub line_put : {out o₀ o₁ o₂ : List ℕ} {at b r₀ r₁ r₂ : ℕ} → at + length (cube_lines m l) ≤ length out → b ≡ get_or l i 0
-      → Wrote out at (cube_lines m (take i l)) r₀ o₀ → Wrote o₀ r₀ (pattern m b) r₁ o₁ → Wrote o₁ r₁ (ascii " 1\n") r₂ o₂
-      → Wrote out at (cube_lines m (take (i + 1) l)) r₂ o₂
-  line_put {b = b} room e p q r =
+  pub line_put : {p q r s : Page} {b : ℕ} → b ≡ get_or l i 0 → Puts p q (cube_lines m (take i l)) → Puts q r (pattern m b) → Puts r s (ascii " 1\n")
+      → Puts p s (cube_lines m (take (i + 1) l))
+  line_put {b = b} e before p q =
       let t = cube_lines m (take i l) in
-      let w = wrote_then (wrote_then p q (omega (arith, line_has_room, pattern-length m b))) r (omega (arith, line_has_room, pattern-length m b, length-append t (pattern m b))) in
-      wrote_text (append_assoc t (pattern m b) (ascii " 1\n") ∙ ap (λ (x : ℕ). t ++ (pattern m x ++ ascii " 1\n")) e ∙ sym lines_more) w
+      puts_text (append_assoc t (pattern m b) (ascii " 1\n") ∙ ap (λ (x : ℕ). t ++ (pattern m x ++ ascii " 1\n")) e ∙ sym lines_more) (puts_then (puts_then before p) q)
 
 -- the text, from its seven pieces
-pub text_put : (m : ℕ) (l : List ℕ) {out o₁ o₂ o₃ o₄ o₅ o₆ o₇ : List ℕ} {r₁ r₂ r₃ r₄ r₅ r₆ r₇ : ℕ} → length (pla_text m l) ≤ length out
-    → Wrote out 0 (ascii ".i ") r₁ o₁ → Wrote o₁ r₁ (decimal m) r₂ o₂ → Wrote o₂ r₂ (ascii "\n.o 1\n.p ") r₃ o₃ → Wrote o₃ r₃ (decimal (length l)) r₄ o₄
-    → Wrote o₄ r₄ (ascii "\n") r₅ o₅ → Wrote o₅ r₅ (cube_lines m l) r₆ o₆ → Wrote o₆ r₆ (ascii ".e\n") r₇ o₇ → Wrote out 0 (pla_text m l) r₇ o₇
+pub text_put : (m : ℕ) (l : List ℕ) {p₀ p₁ p₂ p₃ p₄ p₅ p₆ p₇ : Page} → Puts p₀ p₁ (ascii ".i ") → Puts p₁ p₂ (decimal m) → Puts p₂ p₃ (ascii "\n.o 1\n.p ")
+    → Puts p₃ p₄ (decimal (length l)) → Puts p₄ p₅ (ascii "\n") → Puts p₅ p₆ (cube_lines m l) → Puts p₆ p₇ (ascii ".e\n") → Puts p₀ p₇ (pla_text m l)
 unfolding pla_text
-text_put m l room p₁ p₂ p₃ p₄ p₅ p₆ p₇ =
-    let long = text_length m l in
-    let w₂ = wrote_then p₁ p₂ (omega arith) in
-    let w₃ = wrote_then w₂ p₃ (omega arith) in
-    let w₄ = wrote_then w₃ p₄ (omega arith) in
-    let w₅ = wrote_then w₄ p₅ (omega arith) in
-    let w₆ = wrote_then w₅ p₆ (omega arith) in
-    wrote_then w₆ p₇ (omega arith)
+text_put m l a b c d e f g = puts_then (puts_then (puts_then (puts_then (puts_then (puts_then a b) c) d) e) f) g

@@ -1,28 +1,33 @@
 // Carrier profiles: one or two groups of marks, of each of which a can has exactly one.
 #![tactic(auto)]
 
-ghost use Rattle.std.specs.Prelude.{◌≡◌, ◌≤◌};
+ghost use Rattle.std.specs.Prelude.{◌≡◌, ℕ, ◌%◌, ◌^◌, ◌<◌, ◌≤◌};
+ghost use Rattle.std.specs.Int.Bits.{bit_and};
 ghost use Rattle.profiles.specs.Profiles.{common, group_ok, may_follow, followed, profile_ok, one_on, breaks, settles, count_ok, profile_of, names_ok};
 
 // The groups of a sheet, each a number with a bit for each of its marks; a sheet may have none.
-#[derive(Clone, Copy)]
+#[derive(Clone, Copy, Debug, PartialEq, Eq)]
 pub enum Profile {
     None,
     One(usize),
     Two(usize, usize),
 }
 
+// The first m marks, all of them on.
+fn first_marks(m: usize) -> usize
+    ensures { (x : ℕ) → x < 2 ^ 64 → bit_and x result ≡ x % 2 ^ m }
+{
+    if m < 64 {
+        return (1 << m) - 1;
+    }
+    usize::MAX
+}
+
 // How many of the first m marks are in both.
 fn common(m: usize, a: usize, b: usize) -> usize
     ensures { result ≡ common m a b }
 {
-    let mut n: usize = 0;
-    let mut both = a & b;
-    for i in 0..m {
-        n += both % 2;
-        both = both / 2;
-    }
-    n
+    (a & b & first_marks(m)).count_ones() as usize
 }
 
 // Whether a sheet of m marks may have a group.
@@ -56,7 +61,7 @@ impl Profile {
         match self {
             Profile::None => group_ok(m, g),
             Profile::One(h) => group_ok(m, g) && common(m, h, g) == 0,
-            Profile::Two(h, i) => false,
+            Profile::Two(..) => false,
         }
     }
 
@@ -67,7 +72,7 @@ impl Profile {
         match self {
             Profile::None => Profile::One(g),
             Profile::One(h) => Profile::Two(h, g),
-            Profile::Two(h, i) => Profile::Two(h, i),
+            Profile::Two(..) => self,
         }
     }
 
@@ -108,14 +113,11 @@ impl Profile {
     pub fn of(groups: &[u8]) -> Profile
         ensures { result ≡ profile_of groups.now }
     {
-        if groups.len() == 0 {
-            return Profile::None;
+        match groups {
+            [] => Profile::None,
+            [g] => Profile::One(usize::from(*g)),
+            [g, h, ..] => Profile::Two(usize::from(*g), usize::from(*h)),
         }
-        let g = ground::byte(groups[0]);
-        if groups.len() == 1 {
-            return Profile::One(g);
-        }
-        Profile::Two(g, ground::byte(groups[1]))
     }
 }
 

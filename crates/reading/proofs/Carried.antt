@@ -1,6 +1,6 @@
 -- The groups behind the sections: how the run goes over a group, from one to the next, and over the count in front of them; a profile is read where it is
 -- complete and obeyed.
-use Rattle.std.proofs.Common.{◌≡◌, ◌∙◌, ℕ, zero, suc, ◌-◌, ◌^◌, ◌<◌, refl, sym, ap, true, false, List, [], ◌∷◌, length, arith}
+use Rattle.std.proofs.Common.{◌≡◌, ◌∙◌, ℕ, zero, suc, ◌-◌, ◌^◌, ◌<◌, refl, sym, ap, subst, true, false, List, [], ◌∷◌, length, arith}
 use native.Mathlib.Numerals.{sub-one}
 use borrow.Author.Tests.{ne_eqb, lt-ltb, ltb-true}
 use Rattle.ground.proofs.Cases.{same_or}
@@ -55,12 +55,12 @@ module _ {m : ℕ} {p : Profile} {r : Record} (start left : ℕ) (b : With m p r
   group_missed : {f : Form} {e : Refusal} → Faulty f 1 0 255 e → Stops (due (group r start left)) f e
   group_missed {f} w = field_missed (group r start left) refl f w (λ x small never. absurd (never (omega arith) (omega arith)))
 
-module _ {m : ℕ} {p : Profile} {f h : Form} {g : ℕ} (v : Fits f 1 0 255 h g) (start left : ℕ) where
-  pub group_carried : may_follow m p g ≡ true → Carried (With m p) (λ (r : Record). due (group r start left)) (λ (r : Record). groups_due r start left) f h (followed p g)
-  group_carried may = record { leads = λ r b. group_taken start left b v may }
+module _ {p : Profile} {f h : Form} {g : ℕ} (v : Fits f 1 0 255 h g) (start left : ℕ) where
+  pub group_carried : may_follow h.marks p g ≡ true → Carried (With f.marks p) (λ (r : Record). due (group r start left)) (λ (r : Record). groups_due r start left) f h (followed p g)
+  group_carried may = record { marks = v.marks; leads = λ r b. group_taken start left b v (ap (λ (m : ℕ). may_follow m p g) (sym v.marks) ∙ may) }
 
-  pub group_dropped : may_follow m p g ≡ false → Dropped (With m p) (λ (r : Record). due (group r start left)) f (Unreadable (offset_of f))
-  group_dropped bar = record { stops = λ r b. group_barred start left b v bar }
+  pub group_dropped : may_follow h.marks p g ≡ false → Dropped (With f.marks p) (λ (r : Record). due (group r start left)) f (Unreadable (offset_of f))
+  group_dropped bar = record { stops = λ r b. group_barred start left b v (ap (λ (m : ℕ). may_follow m p g) (sym v.marks) ∙ bar) }
 
 pub group_faulty : {m : ℕ} {p : Profile} {f : Form} {e : Refusal} → Faulty f 1 0 255 e → (start left : ℕ)
     → Dropped (With m p) (λ (r : Record). due (group r start left)) f e
@@ -76,36 +76,40 @@ groups_end : (r : Record) (start left : ℕ) → left ≡ 0 → groups_due r sta
 groups_end r start zero e = refl
 groups_end r start (suc k) e = absurd (omega arith)
 
-pub record GroupsReached (m n : ℕ) (f g : Form) (p : Profile) (left : ℕ) : Type 0 where
-  pub carried : (start : ℕ) → Carried (With m None) (λ (r : Record). groups_due r start n) (λ (r : Record). groups_due r start left) f g p
+pub record GroupsReached (n : ℕ) (f g : Form) (p : Profile) (left : ℕ) : Type 0 where
+  pub carried : (start : ℕ) → Carried (With f.marks None) (λ (r : Record). groups_due r start n) (λ (r : Record). groups_due r start left) f g p
 
-pub groups_none : (m n : ℕ) (f : Form) → GroupsReached m n f f None n
-groups_none m n f = record {
-  carried = λ start. record { leads = λ r b. rw (← b.profile) (at_start (groups_due r start n) f) };
+pub groups_none : (n : ℕ) (f : Form) → GroupsReached n f f None n
+groups_none n f = record {
+  carried = λ start. record { marks = refl; leads = λ r b. rw (← b.profile) (at_start (groups_due r start n) f) };
 }
 
-module _ {m n : ℕ} {f g : Form} {p : Profile} {left : ℕ} (v : GroupsReached m n f g p left) where
-  pub groups_done : left ≡ 0 → (start : ℕ) → Carried (With m None) (λ (r : Record). groups_due r start n) (λ (r : Record). complete r start) f g p
-  groups_done e start = record { leads = λ r b. rw (← groups_end (with_profile p r) start left e) ((v.carried start).leads r b) }
+module _ {n : ℕ} {f g : Form} {p : Profile} {left : ℕ} (v : GroupsReached n f g p left) where
+  kept : (r : Record) → With f.marks None r → With g.marks p (with_profile p r)
+  kept r b = record { marks = b.marks ∙ sym (v.carried 0).marks; profile = refl }
+
+  pub groups_done : left ≡ 0 → (start : ℕ) → Carried (With f.marks None) (λ (r : Record). groups_due r start n) (λ (r : Record). complete r start) f g p
+  groups_done e start = record { marks = (v.carried start).marks; leads = λ r b. rw (← groups_end (with_profile p r) start left e) ((v.carried start).leads r b) }
 
   module _ (some : 0 < left) where
     pub groups_more : {h : Form} {q : Profile}
-        → ((start left : ℕ) → Carried (With m p) (λ (r : Record). due (group r start left)) (λ (r : Record). groups_due r start left) g h q)
-        → GroupsReached m n f h q (left - 1)
+        → ((start left : ℕ) → Carried (With g.marks p) (λ (r : Record). due (group r start left)) (λ (r : Record). groups_due r start left) g h q)
+        → GroupsReached n f h q (left - 1)
     groups_more {h} {q} w = record {
       carried = λ start. record {
+        marks = (w start (left - 1)).marks ∙ (v.carried start).marks;
         leads = λ r b.
             then ((v.carried start).leads r b)
-            (rw (groups_some (with_profile p r) start left some) ((w start (left - 1)).leads (with_profile p r) (record { marks = b.marks; profile = refl })));
+            (rw (groups_some (with_profile p r) start left some) ((w start (left - 1)).leads (with_profile p r) (kept r b)));
       };
     }
 
-    pub groups_dropped : {e : Refusal} → ((start left : ℕ) → Dropped (With m p) (λ (r : Record). due (group r start left)) g e)
-        → (start : ℕ) → Dropped (With m None) (λ (r : Record). groups_due r start n) f e
+    pub groups_dropped : {e : Refusal} → ((start left : ℕ) → Dropped (With g.marks p) (λ (r : Record). due (group r start left)) g e)
+        → (start : ℕ) → Dropped (With f.marks None) (λ (r : Record). groups_due r start n) f e
     groups_dropped w start = record {
       stops = λ r b.
           then_stops ((v.carried start).leads r b)
-          (rw (groups_some (with_profile p r) start left some) ((w start (left - 1)).stops (with_profile p r) (record { marks = b.marks; profile = refl })));
+          (rw (groups_some (with_profile p r) start left some) ((w start (left - 1)).stops (with_profile p r) (kept r b)));
     }
 
 -- the count in front of them
@@ -138,28 +142,36 @@ module _ {m : ℕ} {eithers : List ℕ} {r : Record} (b : ProfileBefore m either
   obeys_told o c l x =
       ltb-true 0 (entry eithers c) (sym (b.told c l) ∙ o c (omega (arith, same_size)) (ap (λ (k : ℕ). breaks k p c) b.plain.marks ∙ x))
 
-module _ {m : ℕ} {eithers : List ℕ} {f : Form} where
-  pub profile_none : length f.rest.now ≡ 0 → Carried (ProfileBefore m eithers) perhaps end f f None
-  profile_none h = record { leads = λ r b. perhaps_none r f h b.plain.profile }
+module _ {eithers : List ℕ} {f : Form} where
+  pub profile_none : length f.rest.now ≡ 0 → Carried (ProfileBefore f.marks eithers) perhaps end f f None
+  profile_none h = record { marks = refl; leads = λ r b. perhaps_none r f h b.plain.profile }
 
   module _ (some : 0 < length f.rest.now) where
-    pub profile_uncounted : {e : Refusal} → Faulty f 2 1 2 e → Dropped (ProfileBefore m eithers) perhaps f e
+    pub profile_uncounted : {e : Refusal} → Faulty f 2 1 2 e → Dropped (ProfileBefore f.marks eithers) perhaps f e
     profile_uncounted w = record { stops = λ r b. uncounted r some w }
 
     module _ {g : Form} {n : ℕ} (v : Fits f 2 1 2 g n) where
-      pub profile_dropped : {e : Refusal} → ((start : ℕ) → Dropped (With m None) (λ (r : Record). groups_due r start n) g e)
-          → Dropped (ProfileBefore m eithers) perhaps f e
-      profile_dropped w = record { stops = λ r b. then_stops (counted r some v) ((w (offset_of f)).stops r b.plain) }
+      plain : (r : Record) → ProfileBefore f.marks eithers r → With g.marks None r
+      plain r b = record { marks = b.plain.marks ∙ sym v.marks; profile = b.plain.profile }
+
+      pub profile_dropped : {e : Refusal} → ((start : ℕ) → Dropped (With g.marks None) (λ (r : Record). groups_due r start n) g e)
+          → Dropped (ProfileBefore f.marks eithers) perhaps f e
+      profile_dropped w = record { stops = λ r b. then_stops (counted r some v) ((w (offset_of f)).stops r (plain r b)) }
 
       module _ {h : Form} {p : Profile}
-          (w : (start : ℕ) → Carried (With m None) (λ (r : Record). groups_due r start n) (λ (r : Record). complete r start) g h p) where
-        to_complete : (r : Record) → ProfileBefore m eithers r → Leads (perhaps r) f (complete (with_profile p r) (offset_of f)) h
-        to_complete r b = then (counted r some v) ((w (offset_of f)).leads r b.plain)
+          (w : (start : ℕ) → Carried (With g.marks None) (λ (r : Record). groups_due r start n) (λ (r : Record). complete r start) g h p) where
+        to_complete : (r : Record) → ProfileBefore f.marks eithers r → Leads (perhaps r) f (complete (with_profile p r) (offset_of f)) h
+        to_complete r b = then (counted r some v) ((w (offset_of f)).leads r (plain r b))
 
-        pub profile_obeyed : Covered m p eithers → Carried (ProfileBefore m eithers) perhaps end f h p
-        profile_obeyed c = record { leads = λ r b. then (to_complete r b) (record { on = λ o x. obeyed (told_obeys b p c) x }) }
+        pub profile_obeyed : Covered h.marks p eithers → Carried (ProfileBefore f.marks eithers) perhaps end f h p
+        profile_obeyed c = record {
+          marks = (w 0).marks ∙ v.marks;
+          leads = λ r b. then (to_complete r b) (record { on = λ o x. obeyed (told_obeys b p (subst (λ (m : ℕ). Covered m p eithers) ((w 0).marks ∙ v.marks) c)) x });
+        }
 
-        pub profile_broken : (Covered m p eithers → ⊥) → Dropped (ProfileBefore m eithers) perhaps f (Unreadable (offset_of f))
+        pub profile_broken : (Covered h.marks p eithers → ⊥) → Dropped (ProfileBefore f.marks eithers) perhaps f (Unreadable (offset_of f))
         profile_broken never = record {
-          stops = λ r b. then_stops (to_complete r b) (record { run = broken (λ o. never (obeys_told b p o)) });
+          stops = λ r b.
+              then_stops (to_complete r b)
+              (record { run = broken (λ o. never (subst (λ (m : ℕ). Covered m p eithers) (sym ((w 0).marks ∙ v.marks)) (obeys_told b p o))) });
         }

@@ -1,5 +1,5 @@
 -- The marks in front of the sections, the record that the sections and the profile give, whichever layout, and the sheet that is worked out from what was read.
-use Rattle.std.proofs.Common.{◌≡◌, ◌∙◌, ℕ, ◌^◌, ◌≤◌, ◌<◌, refl, sym, ap, subst, Bool, true, false, not, cond, ◌&&◌, List, length, arith}
+use Rattle.std.proofs.Common.{◌≡◌, ◌∙◌, ℕ, ◌^◌, ◌≤◌, ◌<◌, refl, sym, ap, subst, Bool, true, false, not, cond, ◌&&◌, List, length, arith, [], ◌∷◌}
 use Rattle.std.specs.Prelude.{Result, Ok, Err, IsErrAnd}
 use lib.Dec.{eqb, ltb}
 use borrow.Author.Tests.{lt-ltb, eq-eqb, ne_eqb}
@@ -14,8 +14,7 @@ use Rattle.classes.specs.declared.Standing.{Standing}
 use Rattle.classes.specs.declared.Standing.TheVariants as standing
 use Rattle.refusals.specs.Numbers.{number_of, place_of}
 use Rattle.refusals.specs.declared.Refusal.{Refusal}
-use Rattle.refusals.specs.declared.Refusal.TheVariants.{Marks}
-use Rattle.sheet.specs.Limits.{most_marks, entries, marks_ok}
+use Rattle.sheet.specs.Limits.{most_marks, entries}
 use Rattle.sheet.specs.Record.{Record, with_profile, opened, sheet_from}
 use Rattle.sheet.specs.Answers.{refused as refused_sheet}
 use Rattle.sheet.specs.Parts.{Addable}
@@ -26,16 +25,18 @@ use Rattle.stored.specs.declared.Layout.{Layout}
 use Rattle.stored.specs.declared.Layout.TheVariants.{First, Today}
 use Rattle.stored.specs.declared.Section.TheVariants.{Class, Either, Held}
 use Rattle.stored.specs.Sections.{Rest, nothing, profile, more, sections}
-use Rattle.stored.specs.Fields.{Bytes, due, marks, count, end, rest_due, judge, Outcome, good, refused, Run, faulty, ReadingBy}
+use Rattle.stored.specs.Fields.{Bytes, due, marks, count, end, rest_due, judge, Outcome, good, refused, Run, early, faulty, ReadingBy}
 use Rattle.stored.specs.Answers.{read_of, ReadsBy}
 use Rattle.stored.specs.Told.{read_as}
 use Rattle.stored.specs.Parts.{Neither}
 use Rattle.stored.proofs.IsForm.{is-form}
+use Rattle.stored.proofs.Runs.{goes}
+use Rattle.stored.proofs.Numbers.{number_one}
 use Rattle.stored.proofs.Told.{refused_told}
-use Rattle.sections.specs.Places.{offset_of, Fits, Faulty}
+use Rattle.sections.specs.Places.{offset_of, Begun, NotBegun, empty, others}
 use Rattle.sections.specs.Parts.{Leads, Stops, with_own, ReadBefore}
 use Rattle.sections.specs.declared.fields.Form.{Form}
-use Rattle.sections.proofs.Offsets.{start as at_start, field_taken, field_missed}
+use Rattle.sections.proofs.Offsets.{start as at_start}
 use Rattle.sections.proofs.Own.{own_start}
 use Rattle.reading.specs.Parts.{NoneRead, EitherFound, EitherMissed, ProfileBefore, EndFound, EndMissed}
 
@@ -52,41 +53,38 @@ class_first : (layout : Layout) → sections layout ≡ more Class (behind_class
 class_first First = refl
 class_first Today = refl
 
--- all of a form, from its beginning
-pub record Begun (t : List ℕ) (f : Form) : Type 0 where
-  pub size : f.size ≡ length t
-  pub rest : f.rest.now ≡ t
+none_read : (layout : Layout) (l : List ℕ) → length l ≡ 0 → ReadingBy layout most_marks l (refused 10 0)
+none_read layout [] e = early {d = marks (sections layout)} (omega arith)
+none_read layout (b ∷ l) e = absurd (omega arith)
 
-module _ (layout : Layout) {t : List ℕ} {f : Form} (b : Begun t f) where
-  at_front : offset_of f ≡ 0
-  at_front = omega (arith, b.size, ap length b.rest)
-
-  pub run_read : (o : Outcome) → Run most_marks (due (marks (sections layout))) (offset_of f) f.rest.now o → ReadingBy layout most_marks t o
-  run_read o r = rw (← b.rest, ← at_front) r
-
+module _ (layout : Layout) {t : List ℕ} where
   -- what a `?` passes on, the run having stopped there
   pub refusal_read : (result : Result Sheet Refused) (e : Refusal) → IsErrAnd result (λ r. r ≡ refused_sheet entries e)
-      → Stops (due (marks (sections layout))) f e → ReadsBy layout most_marks entries t (read_as result)
+      → ReadingBy layout most_marks t (refused (number_of e) (place_of e)) → ReadsBy layout most_marks entries t (read_as result)
   refusal_read (Ok s) e p w = absurd p
   refusal_read (Err r) e p w = record {
     outcome = refused (number_of e) (place_of e);
-    run = run_read (refused (number_of e) (place_of e)) w.run;
+    run = w;
     is = ap (λ (x : Refused). read_as (Err x)) p ∙ refused_told entries e;
   }
 
-  pub marks_missed : {e : Refusal} → Faulty f 1 0 255 e → Stops (due (marks (sections layout))) f e
-  marks_missed w = field_missed (marks (sections layout)) refl f w (λ x small never. absurd (never (omega arith) (omega arith)))
+  -- no marks, or faulty ones
+  pub marks_missed : (e : Refusal) → NotBegun t e → ReadingBy layout most_marks t (refused (number_of e) (place_of e))
+  unfolding judge
+  marks_missed _ (empty e) = none_read layout t e
+  marks_missed _ (others m l e bad) =
+      subst (λ (x : List ℕ). ReadingBy layout most_marks x (refused 1 0)) (sym e)
+      (faulty {d = marks (sections layout)} (omega arith) (rw (number_one m l, bad)))
 
-  module _ {g : Form} {m : ℕ} (v : Fits f 1 0 255 g m) where
-    pub marks_taken : marks_ok most_marks m ≡ true → Leads (due (marks (sections layout))) f (due (count Class (behind_class layout) (opened m))) g
+  -- behind marks that a sheet may have
+  module _ {f : Form} (b : Begun t f) where
+    pub marks_taken : (o : Outcome) → Run most_marks (due (count Class (behind_class layout) (opened f.marks))) (offset_of f) f.rest.now o → ReadingBy layout most_marks t o
     unfolding judge
-    marks_taken ok =
-        field_taken (marks (sections layout)) refl f v (due (count Class (behind_class layout) (opened m)))
-        (rw ok (ap (λ (rest : Rest). rest_due rest (opened m)) (class_first layout)))
-
-    pub marks_wrong : marks_ok most_marks m ≡ false → Stops (due (marks (sections layout))) f Marks
-    unfolding judge
-    marks_wrong bad = record { run = rw at_front (subst (λ (p : ℕ). Run most_marks (due (marks (sections layout))) p f.rest.now (refused 1 p)) at_front (faulty v.inside (rw (← v.number, bad)))) }
+    marks_taken o r =
+        let at : offset_of f ≡ 1 = omega (arith, b.size, ap length b.bytes) in
+        subst (λ (x : List ℕ). ReadingBy layout most_marks x o) (sym b.bytes)
+        (goes (marks (sections layout)) (f.marks ∷ f.rest.now) (due (count Class (behind_class layout) (opened f.marks))) (omega arith)
+        (rw (number_one f.marks f.rest.now, b.ok) (ap (λ (rest : Rest). rest_due rest (opened f.marks)) (class_first layout))) (rw (← at) r))
 
 -- what was read up to the either section, up to the held one, up to the profile, and in all
 abbrev pub class_read : ℕ → List ℕ → Record
@@ -148,6 +146,7 @@ module _ (m : ℕ) (ins : List ℕ) where
 
 -- the either section, which 01's layout has not
 pub record EitherGot (layout : Layout) (m : ℕ) (ins : List ℕ) (f g : Form) (own : List ℕ) : Type 0 where
+  pub marks : g.marks ≡ f.marks
   pub long : 2 ^ m ≤ length own
   pub ones : (c : ℕ) → c < 2 ^ m → entry own c ≤ 1
   pub leads : Leads (rest_due (behind_class layout) (class_read m ins)) f (due (count Held (behind_held layout) (standings_read m ins own))) g
@@ -156,6 +155,7 @@ pub none_found : {m : ℕ} {ins : List ℕ} {f g : Form} {own : List ℕ} → No
 none_found {m} {ins} {f} {g} {own} x =
     let same : class_read m ins ≡ standings_read m ins own = sym (own_start (entry own) {r = class_read m ins} x.none Either (before_either m ins).none) in
     record {
+      marks = ap (λ (x : Form). x.marks) x.stays;
       long = x.long;
       ones = λ c l. omega (arith, x.none c l);
       leads = rw (x.stays, ← same) (at_start (rest_due (behind_class First) (class_read m ins)) f);
@@ -167,7 +167,7 @@ either_missed Today m ins f e x = x.stops (more Held profile) (class_read m ins)
 
 pub either_found : (layout : Layout) (m : ℕ) (ins : List ℕ) (f g : Form) (own : List ℕ) → EitherFound layout m ins f g own → EitherGot layout m ins f g own
 either_found First m ins f g own x = none_found x
-either_found Today m ins f g own x = record { long = x.long; ones = x.most; leads = x.leads (more Held profile) (class_read m ins) (before_either m ins) }
+either_found Today m ins f g own x = record { marks = x.marks; long = x.long; ones = x.most; leads = x.leads (more Held profile) (class_read m ins) (before_either m ins) }
 
 -- the profile, which 01's layout has not
 module _ (m : ℕ) (ins either times : List ℕ) where

@@ -30,11 +30,12 @@ abbrev pub EitherMissed : Layout → ℕ → List ℕ → Form → Refusal → T
 EitherMissed First m ins f e = ⊥
 EitherMissed Today m ins f e = Missed Either m ins (λ (rest : Rest) (r : Record). due (count Either rest r)) f e
 
-abbrev pub EitherRead : Layout → ℕ → List ℕ → Form → Form → Result (List ℕ) Refusal → Type 0
-EitherRead layout m ins f g result = MatchResult result (λ own. EitherFound layout m ins f g own) (λ e. EitherMissed layout m ins f e)
+abbrev pub EitherRead : Layout → List ℕ → Form → Form → Result (List ℕ) Refusal → Type 0
+EitherRead layout ins f g result = MatchResult result (λ own. EitherFound layout f.marks ins f g own) (λ e. EitherMissed layout f.marks ins f e)
 
 -- Some groups that were read: the run leads from one field to another, whatever record R was read before them; they make its profile.
 pub record Carried (R : Record → Type 0) (from to : Record → Next) (f g : Form) (p : Profile) : Type 0 where
+  pub marks : g.marks ≡ f.marks
   pub leads : (r : Record) → R r → Leads (from r) f (to (with_profile p r)) g
 
 -- some that are refused
@@ -47,17 +48,17 @@ pub record With (m : ℕ) (p : Profile) (r : Record) : Type 0 where
   pub profile : r.profile ≡ p
 
 -- a group behind those of a profile, with `left` more behind it; and n groups
-abbrev pub GroupRead : ℕ → Profile → Form → Form → Result Profile Refusal → Type 0
-GroupRead m p f g result =
+abbrev pub GroupRead : Profile → Form → Form → Result Profile Refusal → Type 0
+GroupRead p f g result =
     MatchResult result
-    (λ q. (start left : ℕ) → Carried (With m p) (λ (r : Record). due (group r start left)) (λ (r : Record). groups_due r start left) f g q)
-    (λ e. (start left : ℕ) → Dropped (With m p) (λ (r : Record). due (group r start left)) f e)
+    (λ q. (start left : ℕ) → Carried (With f.marks p) (λ (r : Record). due (group r start left)) (λ (r : Record). groups_due r start left) f g q)
+    (λ e. (start left : ℕ) → Dropped (With f.marks p) (λ (r : Record). due (group r start left)) f e)
 
-abbrev pub GroupsRead : ℕ → ℕ → Form → Form → Result Profile Refusal → Type 0
-GroupsRead m n f g result =
+abbrev pub GroupsRead : ℕ → Form → Form → Result Profile Refusal → Type 0
+GroupsRead n f g result =
     MatchResult result
-    (λ q. (start : ℕ) → Carried (With m None) (λ (r : Record). groups_due r start n) (λ (r : Record). complete r start) f g q)
-    (λ e. (start : ℕ) → Dropped (With m None) (λ (r : Record). groups_due r start n) f e)
+    (λ q. (start : ℕ) → Carried (With f.marks None) (λ (r : Record). groups_due r start n) (λ (r : Record). complete r start) f g q)
+    (λ e. (start : ℕ) → Dropped (With f.marks None) (λ (r : Record). groups_due r start n) f e)
 
 -- each combination that breaks a profile has a number other than 0
 abbrev pub Covered : ℕ → Profile → List ℕ → Type 0
@@ -69,9 +70,9 @@ pub record ProfileBefore (m : ℕ) (eithers : List ℕ) (r : Record) : Type 0 wh
   pub told : (c : ℕ) → c < 2 ^ m → is_either (r.standing c) ≡ ltb 0 (entry eithers c)
 
 -- a profile, or none
-abbrev pub ProfileRead : ℕ → List ℕ → Form → Form → Result Profile Refusal → Type 0
-ProfileRead m eithers f g result =
-    MatchResult result (λ p. Carried (ProfileBefore m eithers) perhaps end f g p) (λ e. Dropped (ProfileBefore m eithers) perhaps f e)
+abbrev pub ProfileRead : List ℕ → Form → Form → Result Profile Refusal → Type 0
+ProfileRead eithers f g result =
+    MatchResult result (λ p. Carried (ProfileBefore f.marks eithers) perhaps end f g p) (λ e. Dropped (ProfileBefore f.marks eithers) perhaps f e)
 
 -- behind all sections; 01's layout has no profile
 abbrev pub EndFound : Layout → ℕ → List ℕ → Form → Form → Profile → Type 0
@@ -82,5 +83,5 @@ abbrev pub EndMissed : Layout → ℕ → List ℕ → Form → Refusal → Type
 EndMissed First m eithers f e = ⊥
 EndMissed Today m eithers f e = Dropped (ProfileBefore m eithers) perhaps f e
 
-abbrev pub EndRead : Layout → ℕ → List ℕ → Form → Form → Result Profile Refusal → Type 0
-EndRead layout m eithers f g result = MatchResult result (λ p. EndFound layout m eithers f g p) (λ e. EndMissed layout m eithers f e)
+abbrev pub EndRead : Layout → List ℕ → Form → Form → Result Profile Refusal → Type 0
+EndRead layout eithers f g result = MatchResult result (λ p. EndFound layout f.marks eithers f g p) (λ e. EndMissed layout f.marks eithers f e)

@@ -9,26 +9,24 @@ use refusals::Refusal;
 use sections::fields::Form;
 
 // The profile with the group that comes next.
-fn read_group(form: &mut Form<'_>, m: usize, profile: Profile) -> Result<Profile, Refusal>
-    requires { m ≤ most_marks }
-    ensures { GroupRead m profile form.old form.new result }
+fn read_group(form: &mut Form<'_>, profile: Profile) -> Result<Profile, Refusal>
+    ensures { GroupRead profile form.old form.new result }
 {
     let place = form.place();
     let group = form.field(1, 0, 255)?;
-    if !profile.may_follow(m, group) {
+    if !profile.may_follow(form.marks, group) {
         return Err(Refusal::Unreadable(place));
     }
     Ok(profile.followed(group))
 }
 
 // The profile of the n groups that come next.
-fn read_groups(form: &mut Form<'_>, m: usize, n: usize) -> Result<Profile, Refusal>
-    requires { m ≤ most_marks }
-    ensures { GroupsRead m n form.old form.new result }
+fn read_groups(form: &mut Form<'_>, n: usize) -> Result<Profile, Refusal>
+    ensures { GroupsRead n form.old form.new result }
 {
     let mut profile = Profile::None;
-    for i in 0..n {
-        profile = read_group(form, m, profile)?;
+    for _ in 0..n {
+        profile = read_group(form, profile)?;
     }
     Ok(profile)
 }
@@ -48,17 +46,16 @@ fn obeyed(m: usize, profile: Profile, eithers: &[u32; 32]) -> bool
 }
 
 // The profile that comes next, behind the sections, `eithers` telling the either combinations; or none, where the bytes end.
-pub fn read(form: &mut Form<'_>, m: usize, eithers: &[u32; 32]) -> Result<Profile, Refusal>
-    requires { m ≤ most_marks }
-    ensures { ProfileRead m eithers.now form.old form.new result }
+pub fn read(form: &mut Form<'_>, eithers: &[u32; 32]) -> Result<Profile, Refusal>
+    ensures { ProfileRead eithers.now form.old form.new result }
 {
     if form.rest.is_empty() {
         return Ok(Profile::None);
     }
     let place = form.place();
     let count = form.field(2, 1, 2)?;
-    let profile = read_groups(form, m, count)?;
-    if !obeyed(m, profile, eithers) {
+    let profile = read_groups(form, count)?;
+    if !obeyed(form.marks, profile, eithers) {
         return Err(Refusal::Unreadable(place));
     }
     Ok(profile)

@@ -1,7 +1,6 @@
 // Reading a sheet's stored form, today's or 01's: any bytes, of any length.
 #![tactic(auto)]
 
-ghost use Rattle.std.specs.Prelude.{◌≤◌};
 ghost use Rattle.sheet.specs.Limits.{most_marks, entries};
 ghost use Rattle.stored.specs.Answers.{ReadsBy, Reads};
 ghost use Rattle.stored.specs.Told.{read_as};
@@ -17,36 +16,28 @@ use sheet::{Refused, Sheet};
 use stored::{Layout, Section};
 
 // The either section that comes next, behind a class of these combinations; 01's layout has none.
-fn either_part(
-    form: &mut Form<'_>,
-    m: usize,
-    ins: &[u32; 32],
-    layout: Layout,
-) -> Result<[u32; 32], Refusal>
-    requires { m ≤ most_marks }
-    ensures { EitherRead layout m ins.now form.old form.new result }
+fn either_part(form: &mut Form<'_>, ins: &[u32; 32], layout: Layout) -> Result<[u32; 32], Refusal>
+    ensures { EitherRead layout ins.now form.old form.new result }
 {
     // Each layout has one thing to read here; a closure for it would be called in this place alone.
     match layout {
         Layout::First => Ok([0u32; 32]),
-        Layout::Today => sections::read(form, m, Section::Either, ins),
+        Layout::Today => sections::read(form, Section::Either, ins),
     }
 }
 
 // The profile that comes next, behind all sections; 01's layout has none.
 fn profile_part(
     form: &mut Form<'_>,
-    m: usize,
     eithers: &[u32; 32],
     layout: Layout,
 ) -> Result<Profile, Refusal>
-    requires { m ≤ most_marks }
-    ensures { EndRead layout m eithers.now form.old form.new result }
+    ensures { EndRead layout eithers.now form.old form.new result }
 {
     // Here too.
     match layout {
         Layout::First => Ok(Profile::None),
-        Layout::Today => groups::read(form, m, eithers),
+        Layout::Today => groups::read(form, eithers),
     }
 }
 
@@ -54,15 +45,12 @@ fn profile_part(
 fn read_by(bytes: &[u8], layout: Layout) -> Result<Sheet, Refused>
     ensures { ReadsBy layout most_marks entries bytes.now (read_as result) }
 {
-    let mut form = Form::new(bytes);
-    let m = form.field(1, 0, 255)?;
-    if !sheet::marks_ok(m) {
-        return Err(Refusal::Marks.into());
-    }
-    let ins = sections::read(&mut form, m, Section::Class, &[0u32; 32])?;
-    let eithers = either_part(&mut form, m, &ins, layout)?;
-    let times = sections::read(&mut form, m, Section::Held, &eithers)?;
-    let profile = profile_part(&mut form, m, &eithers, layout)?;
+    let mut form = Form::open(bytes)?;
+    let m = form.marks;
+    let ins = sections::read(&mut form, Section::Class, &[0u32; 32])?;
+    let eithers = either_part(&mut form, &ins, layout)?;
+    let times = sections::read(&mut form, Section::Held, &eithers)?;
+    let profile = profile_part(&mut form, &eithers, layout)?;
     if !form.rest.is_empty() {
         return Err(Refusal::Unreadable(form.place()).into());
     }

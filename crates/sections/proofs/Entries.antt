@@ -110,6 +110,7 @@ module _ (s : Section) (m : ℕ) (barred : List ℕ) (own : List ℕ) (clear : (
   pub reached_none : (n : ℕ) (f : Form) → 2 ^ m ≤ length own → EntriesReached s m barred n f f own 0 n 0
   reached_none n f long = record {
     got = record {
+      marks = refl;
       long = long;
       most = λ c l. omega (arith, clear c l);
       leads = λ rest r b. subst (λ (q : Record). Leads (entries_due s rest r n 0) f (entries_due s rest q n 0) f) (sym (as_before r b)) (at_start (entries_due s rest r n 0) f);
@@ -122,6 +123,7 @@ module _ (s : Section) (m : ℕ) (barred : List ℕ) (own : List ℕ) (clear : (
 module _ {s : Section} {m : ℕ} {barred : List ℕ} {n : ℕ} {f g : Form} {own : List ℕ} {low left sum : ℕ} (v : EntriesReached s m barred n f g own low left sum) where
   pub reached_end : left ≡ 0 → Got s m barred (λ (rest : Rest) (r : Record). entries_due s rest r n 0) rest_due f g own
   reached_end e = record {
+    marks = v.got.marks;
     long = v.got.long;
     most = v.got.most;
     leads = λ rest r b.
@@ -176,6 +178,7 @@ module _ {s : Section} {m : ℕ} {barred : List ℕ} {n : ℕ} {f g : Form} {own
             λ r b. own_added own c x c_own s r (omega (arith, c_m, ap (λ (j : ℕ). 2 ^ j) b.marks)) in
             record {
               got = record {
+                marks = w.marks ∙ read.marks ∙ v.got.marks;
                 long = omega (arith, length-set own c y, v.got.long);
                 most = λ z l. same_or z c
                     (λ q. omega (arith, ap (entry (set own c y)) q, set_here own c y c_own, most))
@@ -194,14 +197,14 @@ module _ {s : Section} {m : ℕ} {barred : List ℕ} {n : ℕ} {f g : Form} {own
             }
 
 -- a part behind what leads to it
-module _ {s : Section} {m : ℕ} {barred : List ℕ} {from from₁ : Rest → Record → Next} {f f₁ : Form}
-    (l : (rest : Rest) (r : Record) → ReadBefore s m barred r → Leads (from rest r) f (from₁ rest r) f₁) where
-  pub got_after : {g : Form} {own : List ℕ} → Got s m barred from₁ rest_due f₁ g own → Got s m barred from rest_due f g own
-  got_after v = record { long = v.long; most = v.most; leads = λ rest r b. then (l rest r b) (v.leads rest r b) }
+module _ (s : Section) (barred : List ℕ) {from from₁ : Rest → Record → Next} (f f₁ : Form) (same : f₁.marks ≡ f.marks)
+    (l : (rest : Rest) (r : Record) → ReadBefore s f.marks barred r → Leads (from rest r) f (from₁ rest r) f₁) where
+  got_after : (g : Form) (own : List ℕ) → Got s f.marks barred from₁ rest_due f₁ g own → Got s f.marks barred from rest_due f g own
+  got_after g own v = record { marks = v.marks ∙ same; long = v.long; most = v.most; leads = λ rest r b. then (l rest r b) (v.leads rest r b) }
 
-  pub missed_after : {e : Refusal} → Missed s m barred from₁ f₁ e → Missed s m barred from f e
-  missed_after v = record { stops = λ rest r b. then_stops (l rest r b) (v.stops rest r b) }
+  missed_after : (e : Refusal) → Missed s f.marks barred from₁ f₁ e → Missed s f.marks barred from f e
+  missed_after e v = record { stops = λ rest r b. then_stops (l rest r b) (v.stops rest r b) }
 
-  pub part_after : (g : Form) (result : Result (List ℕ) Refusal) → PartRead s m barred from₁ f₁ g result → PartRead s m barred from f g result
-  part_after g (Ok own) v = got_after v
-  part_after g (Err e) v = missed_after v
+  pub part_after : (g : Form) (result : Result (List ℕ) Refusal) → PartRead s f₁.marks barred from₁ f₁ g result → PartRead s f.marks barred from f g result
+  part_after g (Ok own) v = got_after g own (subst (λ (m : ℕ). Got s m barred from₁ rest_due f₁ g own) same v)
+  part_after g (Err e) v = missed_after e (subst (λ (m : ℕ). Missed s m barred from₁ f₁ e) same v)

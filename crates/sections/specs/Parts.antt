@@ -54,6 +54,7 @@ pub record ReadBefore (s : Section) (m : ℕ) (barred : List ℕ) (r : Record) :
 
 -- What was read of a section up to the cursor g. The run leads there from `from`, whatever was read before it and whatever follows.
 pub record Got (s : Section) (m : ℕ) (barred : List ℕ) (from to : Rest → Record → Next) (f g : Form) (own : List ℕ) : Type 0 where
+  pub marks : g.marks ≡ f.marks
   pub long : 2 ^ m ≤ length own
   pub most : (c : ℕ) → c < 2 ^ m → entry own c ≤ most_own s
   pub leads : (rest : Rest) (r : Record) → ReadBefore s m barred r → Leads (from rest r) f (to rest (with_own s (entry own) r)) g
@@ -67,8 +68,8 @@ abbrev pub PartRead : Section → ℕ → List ℕ → (Rest → Record → Next
 PartRead s m barred from f g result = MatchResult result (λ own. Got s m barred from rest_due f g own) (λ e. Missed s m barred from f e)
 
 -- the n combinations behind a count, and the whole section
-abbrev pub EntriesRead : Section → ℕ → List ℕ → ℕ → Form → Form → Result (List ℕ) Refusal → Type 0
-EntriesRead s m barred n f g result = PartRead s m barred (λ (rest : Rest) (r : Record). entries_due s rest r n 0) f g result
+abbrev pub EntriesRead : Section → List ℕ → ℕ → Form → Form → Result (List ℕ) Refusal → Type 0
+EntriesRead s barred n f g result = PartRead s f.marks barred (λ (rest : Rest) (r : Record). entries_due s rest r n 0) f g result
 
-abbrev pub SectionRead : Section → ℕ → List ℕ → Form → Form → Result (List ℕ) Refusal → Type 0
-SectionRead s m barred f g result = PartRead s m barred (λ (rest : Rest) (r : Record). due (count s rest r)) f g result
+abbrev pub SectionRead : Section → List ℕ → Form → Form → Result (List ℕ) Refusal → Type 0
+SectionRead s barred f g result = PartRead s f.marks barred (λ (rest : Rest) (r : Record). due (count s rest r)) f g result

@@ -1,8 +1,7 @@
 // A section, whichever it is: a count, and as many combinations, each with the number behind it.
 #![tactic(auto)]
 
-ghost use Rattle.std.specs.Prelude.{◌≡◌, ◌≤◌};
-ghost use Rattle.sheet.specs.Limits.{most_marks};
+ghost use Rattle.std.specs.Prelude.{◌≡◌};
 ghost use Rattle.sections.specs.Parts.{least, has_in, EntriesRead, SectionRead};
 
 pub mod fields;
@@ -37,20 +36,18 @@ fn has_in(section: Section, number: u32) -> u32
 // What each of n combinations has in a section, 0 where it does not stand there. `barred` is not 0 for those that the section does not take.
 fn read_entries(
     form: &mut Form<'_>,
-    m: usize,
     n: usize,
     section: Section,
     barred: &[u32; 32],
 ) -> Result<[u32; 32], Refusal>
-    requires { m ≤ most_marks }
-    ensures { EntriesRead section m barred.now n form.old form.new result }
+    ensures { EntriesRead section barred.now n form.old form.new result }
 {
-    let top = boxes::power2(m) - 1;
+    let top = boxes::power2(form.marks) - 1;
     let few = least(section);
     let mut own = [0u32; 32];
     let mut low: usize = 0;
     let mut sum: usize = 0;
-    for i in 0..n {
+    for _ in 0..n {
         let place = form.place();
         let c = form.field(1, low, top)?;
         if barred[c] != 0 {
@@ -66,15 +63,9 @@ fn read_entries(
 }
 
 // What each combination has in the section that comes next.
-pub fn read(
-    form: &mut Form<'_>,
-    m: usize,
-    section: Section,
-    barred: &[u32; 32],
-) -> Result<[u32; 32], Refusal>
-    requires { m ≤ most_marks }
-    ensures { SectionRead section m barred.now form.old form.new result }
+pub fn read(form: &mut Form<'_>, section: Section, barred: &[u32; 32]) -> Result<[u32; 32], Refusal>
+    ensures { SectionRead section barred.now form.old form.new result }
 {
-    let count = form.field(2, 0, boxes::power2(m))?;
-    read_entries(form, m, count, section, barred)
+    let count = form.field(2, 0, boxes::power2(form.marks))?;
+    read_entries(form, count, section, barred)
 }

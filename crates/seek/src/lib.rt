@@ -43,7 +43,7 @@ impl Search<'_> {
         self.singles[c | free] + self.singles[free]
     }
 
-    // IsOpen as many boxes as are left on all that is needed, inside the room: on the lowest combination that is not covered, and so on.
+    // Lays as many boxes as are left on all that is needed, inside the room: on the lowest combination that is not covered, and so on.
     #[cycle(cover_try_boxes)]
     fn cover(&self, node: Node, area: &mut [u8]) -> bool
         requires node { IsOpen self.now.marks self.now.known.now.costs node }
@@ -60,7 +60,7 @@ impl Search<'_> {
         self.try_boxes(node, c, area)
     }
 
-    // IsOpen a box on the combination c, and then the others: the boxes through c are tried in rising number.
+    // Lays a box on the combination c, and then the others: the boxes through c are tried in rising number.
     #[cycle(cover_try_boxes)]
     fn try_boxes(&self, node: Node, c: usize, area: &mut [u8]) -> bool
         requires node { IsOpen self.now.marks self.now.known.now.costs node }
@@ -92,7 +92,7 @@ impl Search<'_> {
         false
     }
 
-    // IsOpen k boxes, where no list has fewer.
+    // Lays k boxes, where no list has fewer.
     fn of_size(&self, need: u32, room: u32, k: usize, area: &mut [u8]) -> bool
         requires stage { Stage self.now.marks need room k }
         requires certified { Certified self.now.marks self.now.known.now.costs (has need) (has room) self.now.known.now.plus self.now.known.now.minus }
@@ -113,7 +113,8 @@ impl Search<'_> {
     }
 }
 
-// The first shortest list that covers `need` inside `room`, at the front of the area: how many boxes it has.
+// The first shortest list that covers `need` inside `room`, at the front of the area: how many boxes it has. The number is answered, as
+// `Sought` says, and the list is not lent.
 pub fn shortest(m: usize, need: u32, room: u32, area: &mut [u8]) -> usize
     requires { Askable m need room area.old }
     ensures { Sought m (has need) (has room) result area.new }

@@ -5,6 +5,7 @@ ghost use Rattle.seek_c.specs.Told.{Told};
 
 // The first shortest list that covers `need` inside `room`, at the front of the area: the number of its boxes, and 1. 0 where marks are
 // above 5, where the area has room for fewer boxes than a list can have, and where `need` has a combination not below 2^marks or one that has no room.
+// The C interface has a number alone, so that 0 refuses.
 #[unsafe(no_mangle)]
 pub extern "C" fn seek_shortest(marks: usize, need: u32, room: u32, area: &mut [u8]) -> usize
     ensures { Told marks need room result area.old area.new }

@@ -52,20 +52,13 @@ impl<P: Program> Session<P> {
         requires { SessionReady P.kind self.old out.old }
         ensures { Feeds P.kind self.old piece.now out.old self.new result out.new }
     {
-        let cut = self.line.take(piece);
-        self.line = cut.line;
-        if !cut.ended {
-            return Fed {
-                used: cut.used,
-                wrote: 0,
-            };
+        let (used, ended) = self.line.take(piece);
+        if !ended {
+            return Fed { used, wrote: 0 };
         }
-        let answered = self.program.step(&self.line, out);
+        let wrote = self.program.step(&self.line, out);
         self.line = self.line.next();
-        Fed {
-            used: cut.used,
-            wrote: answered,
-        }
+        Fed { used, wrote }
     }
 
     // The input is at its end: a last line without newline is taken as one that cannot be read, and the program stops.
@@ -76,8 +69,8 @@ impl<P: Program> Session<P> {
         if self.line.is_none() {
             return self.program.stop(out, 0);
         }
-        self.line = self.line.cut_off();
-        let wrote = self.program.step(&self.line, out);
-        self.program.stop(out, wrote)
+        self.line.cut_off();
+        let said = self.program.step(&self.line, out);
+        self.program.stop(out, said)
     }
 }

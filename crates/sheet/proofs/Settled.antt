@@ -3,8 +3,7 @@ use Prim.Native.Nat.{ℕ}
 use mathlib.Core.Path.{◌≡◌, refl, sym, ◌∙◌}
 use mathlib.Core.List.{List}
 use Rattle.sheet.specs.declared.Sheet.{Sheet}
-use Rattle.sheet.specs.Told.{Answer}
-use Rattle.sheet.specs.Told.{Value}
+use Rattle.sheet.specs.Told.{Answer, Value}
 use Rattle.sheet.specs.Answers.{open_of, open_under_of, ClassSize, spoiled, told}
 
 pub open_settled : (most n m : ℕ) (a z : Answer) → a ≡ open_of most n m → z ≡ open_of most n m → a ≡ z

@@ -14,6 +14,7 @@ use Rattle.refusals.specs.declared.Refusal.{Refusal}
 abbrev pub refused_opening : ℕ → ℕ → Answer
 refused_opening n number = record { number = number; sheet = sheet_of n (opened 1) }
 
+-- the error that brings it
 abbrev pub refused : ℕ → Refusal → Refused
 refused n e = record { refusal = e; sheet = sheet_of n (opened 1) }
 

@@ -4,8 +4,10 @@ use mathlib.Core.Bool.{Bool, true, cond}
 use mathlib.Core.Path.{◌≡◌, refl, sym, ◌∙◌, ap, subst}
 use mathlib.Core.List.{List}
 use native.Mathlib.Omega.{arith}
-use lib.ListN.{length, set, length-set}
-use lib.Seq.{get_or-set_same, get_or-set_other}
+use lib.ListN.{length, get_or, take, set, length-set}
+use lib.Seq.{get_or-set_same, get_or-set_other, length-take-le}
+use Rattle.std.proofs.lemmas.List.{get_or-take}
+use Rattle.boxes.specs.Parts.{AllThrough}
 use Rattle.boxes.specs.Boxes.{contains, through}
 use Rattle.ground.proofs.Cases.{if, clash, below_or, same_or}
 use Rattle.boxes.proofs.Choices.{through-lt, through-contains, through_free, free_marks_through, free_marks, free_marks_lt}
@@ -70,3 +72,10 @@ moved_all {m} {c} s {t₀} {t} v =
     (λ b l. if (contains m b c)
     (λ e. v.gone b e (free_marks_lt m b) ∙ ap (λ (z : Bool). cond z (g (entry t₀ b)) (entry t₀ b)) (sym e))
     (λ e. v.rest b (λ w. clash w e) ∙ ap (λ (z : Bool). cond z (g (entry t₀ b)) (entry t₀ b)) (sym e)))
+
+-- the boxes through c, lent as far as there are any
+pub through_taken : (m c n k : ℕ) (all : List ℕ) → AllThrough m c all → n ≡ 2 ^ m → n ≤ length all → k < length (take n all)
+    → (k < 2 ^ m) × (get_or (take n all) k 0 ≡ through m c k)
+through_taken m c n k all is few long l =
+    let q : k < n = omega (arith, length-take-le n all long) in
+    (omega arith, get_or-take n all k 0 q ∙ is k (omega arith))

@@ -7,7 +7,7 @@ use mathlib.Core.List.{List}
 use native.Mathlib.Omega.{arith}
 use lib.ListN.{length}
 use borrow.Author.Tests.{ne_eqb}
-use Rattle.ground.proofs.Cases.{if, clash}
+use Rattle.ground.proofs.Cases.{if}
 use Rattle.boxes.specs.Boxes.{contains, sum_in, single}
 use Rattle.boxes.specs.Sums.{only}
 use Rattle.boxes.proofs.Boxes.{sum_in_change, contains_nothing}
@@ -15,7 +15,7 @@ use Rattle.boxes.proofs.Choices.{through-lt, through-contains, single-contains}
 use Rattle.tables.specs.declared.Shift.{Shift}
 use Rattle.tables.specs.declared.Shift.TheVariants.{Stays, Up, Down}
 use Rattle.tables.specs.Tables.{entry, own, afresh, shifted, moved, Shifts, Shifted, Sums}
-use Rattle.tables.specs.Parts.{stays_of, Bears, AllBear, ShiftsAt}
+use Rattle.tables.specs.Parts.{Bears, AllBear, ShiftsAt}
 use Rattle.tables.proofs.Entries.{tab-length, tab-entry, tab_of, afresh-entry}
 
 -- one number
@@ -82,13 +82,11 @@ moved_same m c s t u lt lu h b l =
     tab-entry (length t) _ b (omega arith) ∙ ap (λ (x : ℕ). cond (contains m b c) (shifted s x) x) (h b l) ∙ sym (tab-entry (length u) _ b (omega arith))
 
 -- a move that shifts nothing
-pub moved_stays : (m c : ℕ) (s : Shift) (t : List ℕ) → stays_of s ≡ true → t ≡ moved m c s t
-moved_stays m c Stays t e =
+pub moved_stays : (m c : ℕ) (t : List ℕ) → t ≡ moved m c Stays t
+moved_stays m c t =
     tab_of (length t) _ t refl (λ b l. if (contains m b c)
     (λ e. ap (λ (x : Bool). cond x (entry t b) (entry t b)) (sym e))
     (λ e. ap (λ (x : Bool). cond x (entry t b) (entry t b)) (sym e)))
-moved_stays m c (Up d) t e = clash e refl
-moved_stays m c (Down d) t e = clash e refl
 
 module _ {m c : ℕ} {s : Shift} {t u : List ℕ} (v : Shifted m c s t u) (fits : 3 ^ m ≤ length t) (low : c < 2 ^ m) where
   -- the combinations' own

@@ -1,23 +1,29 @@
 -- A table in thirds: the sums over one mark more are those below with the mark off, those with it on, and both together.
 use Prim.Native.Nat.{ℕ, suc, ◌+◌, ◌*◌, ◌-◌, ◌^◌, ◌<◌, ◌≤◌}
-use mathlib.Core.Path.{◌≡◌, refl, sym, ◌∙◌, ap, subst, fun_ext}
-use mathlib.Core.Bool.{Bool}
-use Rattle.ground.specs.Decides.{Decides}
-use mathlib.Core.List.{List}
+use mathlib.Core.Path.{◌≡◌, refl, sym, ◌∙◌, ap, ap₂, subst}
+use mathlib.Core.List.{List, [], ◌∷◌, ◌++◌}
 use native.Mathlib.Nat.{pow-suc, one-le-pow}
 use native.Mathlib.Omega.{arith}
-use lib.ListN.{length, set, length-set}
-use lib.Seq.{get_or-set_same, get_or-set_other}
-use Rattle.boxes.specs.Boxes.{sum_in, through, single, all_free}
-use Rattle.boxes.proofs.Boxes.{sum_in_ext, sum_in_nothing, sum_in-le-all}
-use Rattle.ground.proofs.Cases.{below_or, same_or}
-use Rattle.boxes.proofs.Choices.{through_wide, sum_in-single}
+use lib.ListN.{length, set, take, drop, replicate, length-append, length-replicate}
+use lib.Seq.{get_or-set_same}
+use Rattle.std.proofs.lemmas.List.{get_or-take, get_or-drop, get_or_append_left, get_or-append-add, get_or-append_right, get_or-replicate}
+use Rattle.boxes.specs.Boxes.{agrees, contains, sum_in, through, single, all_free}
+use Rattle.boxes.specs.Sums.{sum}
+use Rattle.boxes.proofs.Boxes.{sum_in_ext, sum_in_nothing}
+use Rattle.ground.proofs.Cases.{below_or, digit}
+use Rattle.boxes.proofs.Choices.{through-lt, through_wide, sum_in-single}
 use Rattle.boxes.proofs.Highest.{sum_in_off, sum_in_on, sum_in_free, single_top}
-use Rattle.tables.specs.Tables.{entry, Sums}
-use Rattle.tables.specs.Thirds.{from, Added, sum_of, Made}
+use Rattle.tables.specs.Tables.{entry, afresh, Sums}
+use Rattle.tables.specs.Thirds.{AreSums, SumsOf}
+use Rattle.tables.proofs.Entries.{tab_of}
 
-pub from_start : (f : ℕ → ℕ) → from 0 f ≡ f
-from_start f = fun_ext (λ b. let e : 0 + b ≡ b = omega arith in ap f e)
+-- what stands from `at` on
+abbrev from : ℕ → (ℕ → ℕ) → ℕ → ℕ
+from at t b = t (at + b)
+
+-- the last part is the sum of the first two
+abbrev Added : ℕ → (ℕ → ℕ) → Type 0
+Added p t = (b : ℕ) → b < p → t (b + p + p) ≡ t b + t (b + p)
 
 -- a number of three thirds lies in one of them
 thirds : {P : Type 0} (p b : ℕ) → b < p * 3 → (b < p → P) → ((c : ℕ) → c < p → b ≡ p + c → P) → ((c : ℕ) → c < p → b ≡ p * 2 + c → P) → P
@@ -64,160 +70,121 @@ module _ (m : ℕ) (t : ℕ → ℕ) where
       let mid : b + 3 ^ m ≡ 3 ^ m + b = omega arith in
       omega (arith, ap t at, ap t mid, s (3 ^ m * 2 + b) (omega arith), s b (omega arith), s (3 ^ m + b) (omega arith), sum_in_free m b (λ c. t (single (suc m) c)) q, sum_in_off m b (λ c. t (single (suc m) c)) q, sum_in_on m b (λ c. t (single (suc m) c)) q)
 
--- the same of a table from `at` on, with m - 1 marks below the highest
-
-pub sums_none : (m : ℕ) (t : ℕ → ℕ) → m ≡ 0 → Sums m t
+-- no mark: the one box has the one combination
+pub sums_none : (t : ℕ → ℕ) → Sums 0 t
 unfolding through
-sums_none m t z = subst (λ (n : ℕ). Sums n t) (sym z) (λ b l.
+sums_none t b l =
     let e : b ≡ 0 = omega arith in
-    subst (λ (x : ℕ). t x ≡ sum_in 0 x (λ c. t (single 0 c))) (sym e) (base t))
-  where
-    base : (t : ℕ → ℕ) → t 0 ≡ sum_in 0 0 (λ c. t (single 0 c))
-    base t = sym (sum_in-single 0 0 (λ c. t (single 0 c)) (omega arith))
+    rw e (sym (sum_in-single 0 0 (λ c. t (single 0 c)) (omega arith)))
 
-module _ (m at p : ℕ) (t : ℕ → ℕ) (some : 1 ≤ m) (is : p ≡ 3 ^ (m - 1)) where
-  one_more : m ≡ suc (m - 1)
-  one_more = omega arith
+-- tables with the same entries of boxes
+sums_ext : (m : ℕ) (f g : ℕ → ℕ) → ((b : ℕ) → b < 3 ^ m → f b ≡ g b) → Sums m f → Sums m g
+sums_ext m f g h s b l = sym (h b l) ∙ s b l ∙ sum_in_ext m b _ _ (λ c lc. h (single m c) (through-lt m c 0))
 
-  moved : from (at + p) t ≡ from (3 ^ (m - 1)) (from at t)
-  moved = fun_ext (λ b. let e : at + p + b ≡ at + (3 ^ (m - 1) + b) = omega arith in ap t e)
+-- a table taken apart into thirds of p entries
+pub record Parted (p : ℕ) (t off on free : List ℕ) : Type 0 where
+  pub low : (b : ℕ) → b < p → entry off b ≡ entry t b
+  pub high : (b : ℕ) → b < p → entry on b ≡ entry t (p + b)
+  pub both : (b : ℕ) → b < p → entry free b ≡ entry t (p + (p + b))
 
-  pub parts_sums : {r : Bool} → Sums (m - 1) (from at t) → Sums (m - 1) (from (at + p) t) → Decides r (Added p (from at t)) → Decides r (Sums m (from at t))
-  parts_sums {r} off on d = subst (λ (n : ℕ). Decides r (Sums n (from at t))) (sym one_more) (record {
-    yes = λ e. added_sums (m - 1) (from at t) off (subst (Sums (m - 1)) moved on) (subst (λ (n : ℕ). Added n (from at t)) is (d.yes e));
-    sure = λ s. d.sure (subst (λ (n : ℕ). Added n (from at t)) (sym is) (sums_added (m - 1) (from at t) s));
-  })
-
-  pub one_sums : {r : Bool} → m ≡ 1 → Decides r (Added p (from at t)) → Decides r (Sums m (from at t))
-  one_sums z d = parts_sums (sums_none (m - 1) (from at t) (omega arith)) (sums_none (m - 1) (from (at + p) t) (omega arith)) d
-
-  pub off_sums : Sums m (from at t) → Sums (m - 1) (from at t)
-  off_sums s = sums_off (m - 1) (from at t) (subst (λ (n : ℕ). Sums n (from at t)) one_more s)
-
-  pub on_sums : Sums m (from at t) → Sums (m - 1) (from (at + p) t)
-  on_sums s = subst (Sums (m - 1)) (sym moved) (sums_on (m - 1) (from at t) (subst (λ (n : ℕ). Sums n (from at t)) one_more s))
-
--- entries made one after the other
-
-pub made_none : (at : ℕ) (f : ℕ → ℕ) (t : List ℕ) → Made at 0 f t t
-made_none at f t = record { long = refl; made = λ b l. absurd (omega arith); before = λ b l. refl; behind = λ b l. refl }
-
-pub made_more : {at n : ℕ} {f : ℕ → ℕ} {t₀ t : List ℕ} (i x : ℕ) → Made at n f t₀ t → i ≡ at + n → i < length t₀ → x ≡ f n → Made at (n + 1) f t₀ (set t i x)
-made_more {at} {n} {f} {t₀} {t} i x v is l e = record {
-  long = length-set t i x ∙ v.long;
-  made = λ b lb. same_or b n
-      (λ q. ap (λ (z : ℕ). entry (set t i x) (at + z)) q ∙ ap (entry (set t i x)) (sym is) ∙ get_or-set_same t i x 0 (omega (arith, v.long)) ∙ e ∙ ap f (sym q))
-      (λ d. get_or-set_other t i (at + b) x 0 (λ (w : at + b ≡ i). d (omega arith)) ∙ v.made b (omega arith));
-  before = λ b lb. get_or-set_other t i b x 0 (λ (w : b ≡ i). omega arith) ∙ v.before b lb;
-  behind = λ b lb. get_or-set_other t i b x 0 (λ (w : b ≡ i). omega arith) ∙ v.behind b (omega arith);
+pub parted : (p : ℕ) (t : List ℕ) → Parted p t (take p t) (take p (drop p t)) (drop p (drop p t))
+parted p t = record {
+  low = λ b l. get_or-take p t b 0 l;
+  high = λ b l. get_or-take p (drop p t) b 0 l ∙ get_or-drop p t b 0;
+  both = λ b l. get_or-drop p (drop p t) b 0 ∙ get_or-drop p t (p + b) 0;
 }
 
--- the three parts of one mark more
-module _ (m at : ℕ) (f : ℕ → ℕ) {t a b c : List ℕ} where
-  pub made_thirds : Made at (3 ^ m) (λ x. sum_in m x f) t a → Made (at + 3 ^ m) (3 ^ m) (λ x. sum_in m x (from (2 ^ m) f)) a b
-      → Made (at + 3 ^ m * 2) (3 ^ m) (sum_of (3 ^ m) at b) b c → Made at (3 ^ suc m) (λ x. sum_in (suc m) x f) t c
-  made_thirds off on free =
-      let p3 = pow-suc 3 m in
-      let p = 3 ^ m in
-      let low : (x : ℕ) → x < p → entry b (at + x) ≡ sum_in m x f = λ x l. on.before (at + x) (omega arith) ∙ off.made x l in
-      let high : (x : ℕ) → x < p → entry b (at + p + x) ≡ sum_in m x (from (2 ^ m) f) = λ x l. on.made x l in
-      let is_low : (x : ℕ) → x < p → entry c (at + x) ≡ sum_in (suc m) x f = λ x l. free.before (at + x) (omega arith) ∙ low x l ∙ sym (sum_in_off m x f l) in
-      let is_high : (x : ℕ) → x < p → entry c (at + (p + x)) ≡ sum_in (suc m) (p + x) f = λ x l.
-      let e : at + (p + x) ≡ at + p + x = omega arith in
-      ap (entry c) e ∙ free.before (at + p + x) (omega arith) ∙ high x l ∙ sym (sum_in_on m x f l) in
-      let is_free : (x : ℕ) → x < p → entry c (at + (p * 2 + x)) ≡ sum_in (suc m) (p * 2 + x) f = λ x l.
-      let e : at + (p * 2 + x) ≡ at + p * 2 + x = omega arith in
-      let d : at + x + p ≡ at + p + x = omega arith in
-      ap (entry c) e ∙ free.made x l ∙ omega (arith, low x l, high x l, ap (entry b) d, sum_in_free m x f l) in
-      record {
-        long = free.long ∙ on.long ∙ off.long;
-        made = λ x l. thirds p x (omega arith)
-            (λ q. is_low x q)
-            (λ y q e. subst (λ (z : ℕ). entry c (at + z) ≡ sum_in (suc m) z f) (sym e) (is_high y q))
-            (λ y q e. subst (λ (z : ℕ). entry c (at + z) ≡ sum_in (suc m) z f) (sym e) (is_free y q));
-        before = λ x l. free.before x (omega arith) ∙ on.before x (omega arith) ∙ off.before x l;
-        behind = λ x l. free.behind x (omega arith) ∙ on.behind x (omega arith) ∙ off.behind x (omega arith);
-      }
+module _ (m : ℕ) {t off on free : List ℕ} (w : Parted (3 ^ m) t off on free) where
+  pub parts_sums : length off ≡ 3 ^ m → Sums m (entry off) → Sums m (entry on) → AreSums off on free → Sums (suc m) (entry t)
+  parts_sums e off_sums on_sums free_sums =
+      added_sums m (entry t) (sums_ext m (entry off) (entry t) w.low off_sums) (sums_ext m (entry on) (from (3 ^ m) (entry t)) w.high on_sums)
+      (λ b l.
+      let i : b + 3 ^ m + 3 ^ m ≡ 3 ^ m + (3 ^ m + b) = omega arith in
+      let j : b + 3 ^ m ≡ 3 ^ m + b = omega arith in
+      rw (i, j, sym (w.both b l), sym (w.low b l), sym (w.high b l)) (free_sums b (omega arith)))
 
--- the same with m - 1 marks below the highest; o is what the combinations have of their own
+  pub sums_low : Sums (suc m) (entry t) → Sums m (entry off)
+  sums_low s = sums_ext m (entry t) (entry off) (λ b l. sym (w.low b l)) (sums_off m (entry t) s)
 
-one_box : (f : ℕ → ℕ) → f 0 ≡ sum_in 0 0 f
+  pub sums_high : Sums (suc m) (entry t) → Sums m (entry on)
+  sums_high s = sums_ext m (from (3 ^ m) (entry t)) (entry on) (λ b l. sym (w.high b l)) (sums_on m (entry t) s)
+
+  pub sums_both : length off ≡ 3 ^ m → Sums (suc m) (entry t) → AreSums off on free
+  sums_both e s b lb =
+      let l : b < 3 ^ m = omega arith in
+      let i : b + 3 ^ m + 3 ^ m ≡ 3 ^ m + (3 ^ m + b) = omega arith in
+      let j : b + 3 ^ m ≡ 3 ^ m + b = omega arith in
+      rw (w.both b l, w.low b l, w.high b l, sym i, sym j) (sums_added m (entry t) s b l)
+
+-- a table made of its thirds
+pub sums_joined : (m : ℕ) (own off on free : List ℕ) → length off ≡ 3 ^ m → length on ≡ 3 ^ m → SumsOf m (take (2 ^ m) own) off → SumsOf m (drop (2 ^ m) own) on → AreSums off on free → SumsOf (suc m) own (off ++ (on ++ free))
+sums_joined m own off on free lo ln off_sums on_sums both b l =
+    let p = 3 ^ m in
+    let t = off ++ (on ++ free) in
+    let is_low : (x : ℕ) → x < p → entry off x ≡ sum_in m x (entry own) = λ x q. off_sums x q ∙ sum_in_ext m x _ _ (λ c lc. get_or-take (2 ^ m) own c 0 lc) in
+    let is_high : (x : ℕ) → x < p → entry on x ≡ sum_in m x (λ c. entry own (2 ^ m + c)) = λ x q. on_sums x q ∙ sum_in_ext m x _ _ (λ c lc. get_or-drop (2 ^ m) own c 0) in
+    let on_at : (x : ℕ) → entry t (p + x) ≡ entry (on ++ free) x = λ x. subst (λ (n : ℕ). entry t (n + x) ≡ entry (on ++ free) x) lo (get_or-append-add off (on ++ free) x 0) in
+    let free_at : (x : ℕ) → entry (on ++ free) (p + x) ≡ entry free x = λ x. subst (λ (n : ℕ). entry (on ++ free) (n + x) ≡ entry free x) ln (get_or-append-add on free x 0) in
+    thirds p b (omega (arith, pow-suc 3 m))
+    (λ q. get_or_append_left off (on ++ free) 0 b (omega arith) ∙ is_low b q ∙ sym (sum_in_off m b (entry own) q))
+    (λ c q e. rw e (on_at c ∙ get_or_append_left on free 0 c (omega arith) ∙ is_high c q ∙ sym (sum_in_on m c (entry own) q)))
+    (λ c q e.
+    let i : p * 2 + c ≡ p + (p + c) = omega arith in
+    rw e (ap (entry t) i ∙ on_at (p + c) ∙ free_at c ∙ both c (omega arith) ∙ ap₂ (λ (x y : ℕ). x + y) (is_low c q) (is_high c q) ∙ sym (sum_in_free m c (entry own) q)))
+
+-- the sum of all is that of the two halves
+pub whole_halves : (m : ℕ) (own : List ℕ)
+    → sum_in (suc m) (all_free (suc m)) (entry own) ≡ sum_in m (all_free m) (entry (take (2 ^ m) own)) + sum_in m (all_free m) (entry (drop (2 ^ m) own))
+whole_halves m own =
+    let one : 1 ≤ 3 ^ m = one-le-pow m 3 (omega arith) in
+    let top : 3 ^ suc m - 1 ≡ 3 ^ m * 2 + (3 ^ m - 1) = omega (arith, pow-suc 3 m) in
+    ap (λ (x : ℕ). sum_in (suc m) x (entry own)) top
+    ∙ sum_in_free m (3 ^ m - 1) (entry own) (omega arith)
+    ∙ ap₂ (λ (x y : ℕ). x + y)
+    (sum_in_ext m (all_free m) _ _ (λ c lc. sym (get_or-take (2 ^ m) own c 0 lc)))
+    (sum_in_ext m (all_free m) _ _ (λ c lc. sym (get_or-drop (2 ^ m) own c 0)))
+
+-- over one mark: the two combinations, and both together
+
+one_mark : (f : ℕ → ℕ) → (sum_in 1 0 f ≡ f 0) × (sum_in 1 1 f ≡ f 1) × (sum_in 1 2 f ≡ f 0 + f 1)
+unfolding sum_in sum contains agrees
+one_mark f = (omega arith, omega arith, omega arith)
+
+set_three : (t : List ℕ) (x y z : ℕ) → length t ≡ 3 → set (set (set t 0 x) 1 y) 2 z ≡ x ∷ y ∷ z ∷ []
+set_three [] x y z e = absurd (omega arith)
+set_three (a ∷ []) x y z e = absurd (omega arith)
+set_three (a ∷ b ∷ []) x y z e = absurd (omega arith)
+set_three (a ∷ b ∷ c ∷ []) x y z e = refl
+set_three (a ∷ b ∷ c ∷ d ∷ l) x y z e = absurd (omega arith)
+
+pub sums_three : (m : ℕ) (own t : List ℕ) → m ≡ 1 → length t ≡ 3 ^ m
+    → SumsOf m own (set (set (set t 0 (entry own 0)) 1 (entry own 1)) 2 (entry own 0 + entry own 1))
+sums_three m own t is e b l =
+    let s = one_mark (entry own) in
+    let x = entry own 0 in
+    let y = entry own 1 in
+    let three : 3 ^ m ≡ 3 = ap (λ (n : ℕ). 3 ^ n) is in
+    rw (is, set_three t x y (x + y) (e ∙ three))
+    (digit (λ (d : ℕ). entry (x ∷ y ∷ (x + y) ∷ []) d ≡ sum_in 1 d (entry own)) b (omega arith) (sym s.0) (sym s.1) (sym s.2))
+
+-- the one combination without marks
+pub sums_one : (m : ℕ) (own t : List ℕ) → m ≡ 0 → length t ≡ 3 ^ m → SumsOf m own (set t 0 (entry own 0))
 unfolding through
-one_box f = sym (sum_in-single 0 0 f (omega arith))
+sums_one m own t is e b l =
+    let one : 3 ^ m ≡ 1 = ap (λ (n : ℕ). 3 ^ n) is in
+    let z : b ≡ 0 = omega arith in
+    rw (is, z) (get_or-set_same t 0 (entry own 0) 0 (omega arith) ∙ sym (sum_in-single 0 0 (entry own) (omega arith)))
 
-pub fill_none : (m at low : ℕ) (o : ℕ → ℕ) (t : List ℕ) → m ≡ 0 → at < length t → Made at (3 ^ m) (λ x. sum_in m x (from low o)) t (set t at (o low))
-fill_none m at low o t z l =
-    let e : low ≡ low + 0 = omega arith in
-    let v = made_more {f = λ (x : ℕ). sum_in 0 x (from low o)} at (o low) (made_none at (λ x. sum_in 0 x (from low o)) t) (omega arith) l (ap o e ∙ one_box (from low o)) in
-    subst (λ (n : ℕ). Made at (3 ^ n) (λ x. sum_in n x (from low o)) t (set t at (o low))) (sym z) v
+pub whole_one : (m : ℕ) (own : List ℕ) → m ≡ 1 → sum_in m (all_free m) (entry own) ≡ entry own 0 + entry own 1
+whole_one m own is = rw is (one_mark (entry own)).2
 
-module _ (m low h : ℕ) (o : ℕ → ℕ) (some : 1 ≤ m) (half : h ≡ 2 ^ (m - 1)) where
-  shift : from (low + h) o ≡ from (2 ^ (m - 1)) (from low o)
-  shift = fun_ext (λ b. let e : low + h + b ≡ low + (2 ^ (m - 1) + b) = omega arith in ap o e)
-
-  more : m ≡ suc (m - 1)
-  more = omega arith
-
-  -- the sum of all is that of the two halves
-  pub whole_parts : sum_in m (all_free m) (from low o) ≡ sum_in (m - 1) (all_free (m - 1)) (from low o) + sum_in (m - 1) (all_free (m - 1)) (from (low + h) o)
-  whole_parts =
-      let k = m - 1 in
-      let p3 = pow-suc 3 k in
-      let one : 1 ≤ 3 ^ k = one-le-pow k 3 (omega arith) in
-      let top : 3 ^ suc k - 1 ≡ 3 ^ k * 2 + (3 ^ k - 1) = omega arith in
-      ap (λ (n : ℕ). sum_in n (all_free n) (from low o)) more ∙ ap (λ (x : ℕ). sum_in (suc k) x (from low o)) top
-      ∙ sum_in_free k (3 ^ k - 1) (from low o) (omega arith)
-      ∙ ap (λ (f : ℕ → ℕ). sum_in k (3 ^ k - 1) (from low o) + sum_in k (3 ^ k - 1) f) (sym shift)
-
-  module _ (at p : ℕ) (power : p ≡ 3 ^ (m - 1)) {t a b : List ℕ} (off : Made at (3 ^ (m - 1)) (λ x. sum_in (m - 1) x (from low o)) t a)
-      (on : Made (at + p) (3 ^ (m - 1)) (λ x. sum_in (m - 1) x (from (low + h) o)) a b) where
-    pub parts_fit : sum_in m (all_free m) (from low o) < 2 ^ 32 → (x : ℕ) → x < p → entry b (at + x) + entry b (at + x + p) < 2 ^ 32
-    parts_fit l x q =
-        let k = m - 1 in
-        let e : at + x + p ≡ at + p + x = omega arith in
-        omega (arith, whole_parts, on.before (at + x) (omega arith), off.made x (omega arith), ap (entry b) e, on.made x (omega arith), sum_in-le-all k x (from low o), sum_in-le-all k x (from (low + h) o))
-
-    pub fill_step : {c : List ℕ} → Made (at + p * 2) p (sum_of p at b) b c → Made at (3 ^ m) (λ x. sum_in m x (from low o)) t c
-    fill_step {c} free =
-        let k = m - 1 in
-        subst (λ (n : ℕ). Made at (3 ^ n) (λ x. sum_in n x (from low o)) t c) (sym more)
-        (made_thirds k at (from low o) off
-        (subst (λ (f : ℕ → ℕ). Made (at + 3 ^ k) (3 ^ k) (λ x. sum_in k x f) a b) shift (subst (λ (n : ℕ). Made (at + n) (3 ^ k) (λ x. sum_in k x (from (low + h) o)) a b) power on))
-        (subst (λ (n : ℕ). Made (at + n * 2) n (sum_of n at b) b c) power free))
-
--- one mark: what stands at low, what stands behind it, and their sum
-
-pub one-sum : (m low : ℕ) (o : ℕ → ℕ) → m ≡ 1 → sum_in m (all_free m) (from low o) ≡ o low + o (low + 1)
-one-sum m low o is =
-    let e : low + 0 ≡ low = omega arith in
-    let d : low + 1 + 0 ≡ low + 1 = omega arith in
-    ap (λ (n : ℕ). sum_in n (all_free n) (from low o)) is ∙ omega (arith, whole_parts 1 low 1 o (omega arith) refl, one_box (from low o), one_box (from (low + 1) o), ap o e, ap o d)
-
-pub fill_three : (at low : ℕ) (o : ℕ → ℕ) (t : List ℕ) → at + 3 ≤ length t
-    → Made at 3 (λ x. sum_in 1 x (from low o)) t (set (set (set t at (o low)) (at + 1) (o (low + 1))) (at + 2) (o low + o (low + 1)))
-fill_three at low o t l =
-    let a = set t at (o low) in
-    let b = set a (at + 1) (o (low + 1)) in
-    let off = fill_none 0 at low o t refl (omega arith) in
-    let on = fill_none 0 (at + 1) (low + 1) o a refl (omega (arith, length-set t at (o low))) in
-    let e : at + 0 ≡ at = omega arith in
-    let d : at + 0 + 1 ≡ at + 1 = omega arith in
-    let first = ap (entry b) e ∙ get_or-set_other a (at + 1) at (o (low + 1)) 0 (λ (w : at ≡ at + 1). omega arith) ∙ get_or-set_same t at (o low) 0 (omega arith) in
-    let second = ap (entry b) d ∙ get_or-set_same a (at + 1) (o (low + 1)) 0 (omega (arith, off.long)) in
-    fill_step 1 low 1 o (omega arith) refl at 1 refl off on
-    (made_more (at + 2) (o low + o (low + 1)) (made_none (at + 2) (sum_of 1 at b) b) (omega arith) (omega (arith, on.long, off.long)) (omega (arith, first, second)))
-
--- what stands below b, and one entry at 3^m or above more
-
-abbrev pub Standing : ℕ → (ℕ → ℕ) → List ℕ → ℕ → Type 0
-Standing m o t b = (k : ℕ) → k < b → entry t k ≡ sum_in m k o
-
-pub standing_boxes : (m n : ℕ) (o : ℕ → ℕ) {t later : List ℕ} → n ≡ 3 ^ m → Made 0 (3 ^ m) (λ x. sum_in m x (from 0 o)) t later → Standing m o later n
-standing_boxes m n o {later = later} is made k l =
-    let e : k ≡ 0 + k = omega arith in
-    ap (entry later) e ∙ made.made k (omega arith) ∙ ap (sum_in m k) (from_start o)
-
-pub standing_more : (m b : ℕ) (o : ℕ → ℕ) (t : List ℕ) → b < length t → 3 ^ m ≤ b → Standing m o t b → Standing m o (set t b 0) (b + 1)
-standing_more m b o t l above s k q = same_or k b
-    (λ e. ap (entry (set t b 0)) e ∙ get_or-set_same t b 0 0 l ∙ sym (sum_in_nothing m b o above) ∙ ap (λ (x : ℕ). sum_in m x o) (sym e))
-    (λ d. get_or-set_other t b k 0 0 d ∙ s k (omega arith))
+-- behind the boxes stands 0
+pub sums_behind : (n m : ℕ) (own a z : List ℕ) → length a ≡ 3 ^ m → SumsOf m own a → z ≡ replicate (n - 3 ^ m) 0 → 3 ^ m ≤ n → a ++ z ≡ afresh n m (entry own)
+sums_behind n m own a z la sums zeros long =
+    let k = n - 3 ^ m in
+    let lz : length z ≡ k = ap length zeros ∙ length-replicate k 0 in
+    tab_of n (λ b. sum_in m b (entry own)) (a ++ z) (omega (arith, length-append a z))
+    (λ b l. below_or b (3 ^ m)
+    (λ q. get_or_append_left a z 0 b (omega arith) ∙ sums b q)
+    (λ q. get_or-append_right a z (3 ^ m) b 0 la q
+    ∙ ap (λ (l : List ℕ). entry l (b - 3 ^ m)) zeros ∙ get_or-replicate k (b - 3 ^ m) 0 0 (omega arith) ∙ sym (sum_in_nothing m b (entry own) q)))

@@ -1,5 +1,5 @@
 -- What the functions on tables ask of each other's arguments.
-use Rattle.std.specs.Prelude.{ℕ, ◌+◌, ◌*◌, ◌^◌, ◌≤◌, ◌<◌, ◌≡◌, Bool, true, false, List, length}
+use Rattle.std.specs.Prelude.{ℕ, ◌+◌, ◌*◌, ◌^◌, ◌≤◌, ◌<◌, ◌≡◌, Bool, true, List, length}
 use Rattle.boxes.specs.Boxes.{contains, free_count}
 use Rattle.tables.specs.declared.Shift.{Shift}
 use Rattle.tables.specs.declared.Shift.TheVariants.{Stays, Up, Down}
@@ -10,12 +10,6 @@ pub record Over (m c : ℕ) (t : List ℕ) : Type 0 where
   pub marks : m ≤ 8
   pub low : c < 2 ^ m
   pub long : 3 ^ m ≤ length t
-
--- nothing moves
-abbrev pub stays_of : Shift → Bool
-stays_of Stays = true
-stays_of (Up d) = false
-stays_of (Down d) = false
 
 -- x has room for the shift: it stays within 0 to 2^32 - 1
 abbrev pub Bears : Shift → ℕ → Type 0

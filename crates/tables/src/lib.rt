@@ -1,17 +1,17 @@
 // Tables of kept numbers, lent by their owner: changed at the boxes that contain one combination, tested, and worked out afresh.
 #![tactic(auto)]
 
-ghost use Rattle.std.specs.Prelude.{◌≡◌, ◌+◌, ◌*◌, ◌-◌, ◌^◌, ◌<◌, ◌≤◌, length};
+ghost use Rattle.std.specs.Prelude.{◌≡◌, ℕ, ◌+◌, ◌*◌, ◌-◌, ◌^◌, ◌<◌, ◌≤◌, length};
 ghost use Rattle.ground.specs.Decides.{Decides};
 ghost use Rattle.boxes.specs.Boxes.{sum_in, all_free};
 ghost use Rattle.tables.specs.Tables.{entry, own, afresh, shifted, moved, fits_shifted, touched, Sums};
-ghost use Rattle.tables.specs.Parts.{Over, Bears, AllBear, stays_of, fits_moved};
-ghost use Rattle.tables.specs.Thirds.{from, Added, sum_of, FewEach, Made};
+ghost use Rattle.tables.specs.Parts.{Over, Bears, AllBear, fits_moved};
+ghost use Rattle.tables.specs.Thirds.{AreSums, SumsOf};
 
 use boxes;
 
 // What a move does to a number that is kept.
-#[derive(Clone, Copy)]
+#[derive(Clone, Copy, Debug, PartialEq, Eq)]
 pub enum Shift {
     Stays,
     Up(u32),
@@ -19,25 +19,14 @@ pub enum Shift {
 }
 
 impl Shift {
-    // Whether nothing moves.
-    fn is_none(self) -> bool
-        ensures { result ≡ stays_of self }
-    {
-        match self {
-            Shift::Stays => true,
-            Shift::Up(d) => false,
-            Shift::Down(d) => false,
-        }
-    }
-
     // Whether the number, shifted, is 0 to `most`.
     fn fits(self, x: u32, most: u64) -> bool
         ensures { result ≡ fits_shifted self most x }
     {
         match self {
-            Shift::Stays => ground::wide(x) <= most,
-            Shift::Up(d) => ground::wide(x) + ground::wide(d) <= most,
-            Shift::Down(d) => d <= x && ground::wide(x - d) <= most,
+            Shift::Stays => u64::from(x) <= most,
+            Shift::Up(d) => u64::from(x) + u64::from(d) <= most,
+            Shift::Down(d) => d <= x && u64::from(x - d) <= most,
         }
     }
 
@@ -60,13 +49,12 @@ pub fn move_at(m: usize, c: usize, by: Shift, t: &mut [u32])
     requires all_bear { AllBear m c by t.old }
     ensures { t.new ≡ moved m c by t.old }
 {
-    if by.is_none() {
+    if matches!(by, Shift::Stays) {
         return;
     }
     let all = boxes::all_through(m, c);
-    let turns = boxes::power2(m);
-    for k in 0..turns {
-        let b = boxes::through(m, c, &all, k);
+    for b in &all[..boxes::power2(m)] {
+        let b = usize::from(*b);
         t[b] = by.of(t[b]);
     }
 }
@@ -78,112 +66,103 @@ pub fn fits_at(m: usize, c: usize, by: Shift, t: &[u32], most: u64, each: u64) -
     ensures { result ≡ touched m c (fits_moved m by t.now most each) }
 {
     let all = boxes::all_through(m, c);
-    let n = boxes::power2(m);
-    for k in 0..n {
-        let b = boxes::through(m, c, &all, k);
-        let size = boxes::power2(usize::count_ones(k) as usize) as u64;
-        if !by.fits(t[b], most + each * size) {
+    for (k, b) in all[..boxes::power2(m)].iter().enumerate() {
+        let size = boxes::power2(k.count_ones() as usize) as u64;
+        if !by.fits(t[usize::from(*b)], most + each * size) {
             return false;
         }
     }
     true
 }
 
-// Whether, of the three times p entries from `at` on, each of the last p is the sum of those p and twice p before it: the boxes with the highest mark
-// free, off and on.
-fn is_added(p: usize, t: &[u32], at: usize) -> bool
-    requires { (p ≤ 6561) × (at ≤ 6561) × (at + p * 3 ≤ length t.now) }
-    ensures { Decides result (Added p (from at (entry t.now))) }
+// Whether each entry of a box with the highest mark free is the sum of the two with it off and on.
+fn are_sums(off: &[u32], on: &[u32], free: &[u32]) -> bool
+    requires { (length on.now ≡ length off.now) × (length off.now ≤ length free.now) }
+    ensures { Decides result (AreSums off.now on.now free.now) }
 {
-    let mut right = true;
-    // it tests all, right or wrong, so that several can be tested at once
-    for b in 0..p {
-        let off = at + b;
-        let on = off + p;
-        let free = on + p;
-        right = right & (ground::wide(t[free]) == ground::wide(t[off]) + ground::wide(t[on]));
-    }
-    right
+    off.iter().zip(on).zip(free).all(|((off, on), free)| {
+        u64::from(*free) == u64::from(*off) + u64::from(*on)
+    })
 }
 
-// Whether each of the entries from `at` on, of the boxes over m marks, is the sum over its box.
-fn sums_at(m: usize, t: &[u32], at: usize) -> bool
-    requires { (m ≤ 8) × (at + 3 ^ m ≤ length t.now) × (at + 3 ^ m ≤ 6561) }
-    ensures { Decides result (Sums m (from at (entry t.now))) }
+// The number of combinations with the highest mark off.
+fn half(m: usize) -> usize
+    requires { (1 ≤ m) × (m ≤ 8) }
+    ensures power { result ≡ 2 ^ (m - 1) }
+    ensures half { result * 2 ≡ 2 ^ m }
 {
-    // one mark is tested at once, as half of all calls would be for none
-    if m == 1 {
-        return is_added(1, t, at);
-    }
-    if m == 0 {
-        return true;
-    }
-    let p = boxes::power3(m - 1);
-    if !sums_at(m - 1, t, at) {
-        return false;
-    }
-    if !sums_at(m - 1, t, at + p) {
-        return false;
-    }
-    is_added(p, t, at)
+    boxes::power2(m - 1)
 }
 
-// Whether each entry is the sum over its box.
+// The number of boxes with the highest mark off: so many have it on, and so many have it free.
+fn third(m: usize) -> usize
+    requires { (1 ≤ m) × (m ≤ 8) }
+    ensures power { result ≡ 3 ^ (m - 1) }
+    ensures third { result * 3 ≡ 3 ^ m }
+{
+    boxes::power3(m - 1)
+}
+
+// Whether each entry is the sum over its box: third by third, as the highest mark is off, on, and free.
 pub fn sums(m: usize, t: &[u32]) -> bool
     requires { (m ≤ 8) × (3 ^ m ≤ length t.now) }
     ensures { Decides result (Sums m (entry t.now)) }
 {
-    sums_at(m, t, 0)
+    if m == 0 {
+        return true;
+    }
+    let p = third(m);
+    let (off, rest) = t.split_at(p);
+    let (on, free) = rest.split_at(p);
+    // one mark is tested at once, as half of all calls would be for none
+    if m == 1 {
+        return are_sums(off, on, free);
+    }
+    if !sums(m - 1, off) {
+        return false;
+    }
+    if !sums(m - 1, on) {
+        return false;
+    }
+    are_sums(off, on, free)
 }
 
 // Makes those sums.
-fn join(p: usize, t: &mut [u32], at: usize)
-    requires p_bound { (p ≤ 6561) × (at ≤ 6561) × (at + p * 3 ≤ length t.old) }
-    requires few_each { FewEach p at t.old }
-    ensures { Made (at + p * 2) p (sum_of p at t.old) t.old t.new }
+fn join(off: &[u32], on: &[u32], free: &mut [u32])
+    requires long { (length off.now ≡ length free.old) × (length on.now ≡ length free.old) }
+    requires few_each { (b : ℕ) → b < length free.old → entry off.now b + entry on.now b < 2 ^ 32 }
+    ensures { AreSums off.now on.now free.new }
 {
-    for b in 0..p {
-        let off = at + b;
-        let on = off + p;
-        let free = on + p;
-        t[free] = t[off] + t[on];
+    for (b, sum) in free.iter_mut().enumerate() {
+        *sum = off[b] + on[b];
     }
 }
 
-// The three entries from `at` on of the boxes over one mark: what stands at `low`, what stands behind it, and their sum.
-fn fill_one(own: &[u32], low: usize, t: &mut [u32], at: usize)
-    requires low_in_bounds { (low + 2 ≤ length own.now) × (at + 3 ≤ length t.old) }
-    requires low_bound { entry own.now low + entry own.now (low + 1) < 2 ^ 32 }
-    ensures { Made at 3 (λ b. sum_in 1 b (from low (entry own.now))) t.old t.new }
+// The entries of the boxes over m marks, worked out from what the combinations have of their own: those with the highest mark off, those with it on,
+// and their sums.
+fn fill_boxes(m: usize, own: &[u32], t: &mut [u32])
+    requires m_bound { (m ≤ 8) × (2 ^ m ≤ length own.now) × (length t.old ≡ 3 ^ m) }
+    requires own_bound { sum_in m (all_free m) (entry own.now) < 2 ^ 32 }
+    ensures { SumsOf m own.now t.new }
 {
-    let off = own[low];
-    let on = own[low + 1];
-    t[at] = off;
-    t[at + 1] = on;
-    t[at + 2] = off + on;
-}
-
-// The entries from `at` on of the boxes over m marks, worked out from what the combinations have of their own, which stands from `low` on: those
-// with the highest mark off, those with it on, and their sums.
-fn fill_at(m: usize, own: &[u32], low: usize, t: &mut [u32], at: usize)
-    requires m_bound { (m ≤ 8) × (low + 2 ^ m ≤ length own.now) × (low + 2 ^ m ≤ 256) × (at + 3 ^ m ≤ length t.old) × (at + 3 ^ m ≤ 6561) }
-    requires own_bound { sum_in m (all_free m) (from low (entry own.now)) < 2 ^ 32 }
-    ensures { Made at (3 ^ m) (λ b. sum_in m b (from low (entry own.now))) t.old t.new }
-{
+    if m == 0 {
+        t[0] = own[0];
+        return;
+    }
     // one mark is filled at once, as half of all calls would be for none
     if m == 1 {
-        fill_one(own, low, t, at);
+        t[0] = own[0];
+        t[1] = own[1];
+        t[2] = own[0] + own[1];
         return;
     }
-    if m == 0 {
-        t[at] = own[low];
-        return;
-    }
-    let p = boxes::power3(m - 1);
-    let h = boxes::power2(m - 1);
-    fill_at(m - 1, own, low, t, at);
-    fill_at(m - 1, own, low + h, t, at + p);
-    join(p, t, at);
+    let p = third(m);
+    let (low, high) = own.split_at(half(m));
+    let (off, rest) = t.split_at_mut(p);
+    let (on, free) = rest.split_at_mut(p);
+    fill_boxes(m - 1, low, off);
+    fill_boxes(m - 1, high, on);
+    join(off, on, free);
 }
 
 // The table worked out afresh from what each combination has of its own: n entries are of boxes, and the others 0.
@@ -192,10 +171,7 @@ pub fn fill(m: usize, own: &[u32], t: &mut [u32])
     requires own_bound { sum_in m (all_free m) (entry own.now) < 2 ^ 32 }
     ensures { t.new ≡ afresh (length t.old) m (entry own.now) }
 {
-    fill_at(m, own, 0, t, 0);
-    let len = t.len();
-    let n = boxes::power3(m);
-    for b in n..len {
-        t[b] = 0;
-    }
+    let (of_boxes, others) = t.split_at_mut(boxes::power3(m));
+    fill_boxes(m, own, of_boxes);
+    others.fill(0);
 }

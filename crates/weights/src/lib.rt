@@ -17,7 +17,7 @@ mod walk;
 use room::{InRoom, Room};
 use simplex::{Entering, Simplex};
 
-// What each combination weighs, `plus - minus` in parts of 65536.
+// What each combination weighs, `plus - minus` in parts of 65536. Two tables and no table of pairs: a sum takes one of them alone.
 #[derive(Clone, Copy)]
 pub struct Weights {
     pub plus: [u32; 32],
@@ -65,7 +65,13 @@ pub fn propose(sets: &[u32; 243], singles: &[usize; 32], need: u32, room: u32) -
         boxes: &area[..n],
         spare: room & !need,
     };
-    let mut simplex = Simplex::new(need);
+    // made where it stays, so that its 8 kB are not copied
+    let mut simplex = Simplex {
+        inverse: [[0.0; 32]; 32],
+        x: [0.0; 32],
+        y: [0.0; 32],
+    };
+    simplex.begin(need);
     simplex.climb(&room);
     let mean = simplex.walk(&room);
     // where a box still weighs more than 1, all weights are made less

@@ -47,7 +47,7 @@ pub fn lows() -> [usize; 243] {
     lows
 }
 
-// Lays the boxes of the room at the front of the area, in rising number: how many they are.
+// Lays the boxes of the room at the front of the area, in rising number: how many they are. There is no heap to collect them in.
 pub fn inside(sets: &[u32; 243], room: u32, area: &mut [InRoom; 243]) -> usize
     ensures { result ≤ 243 }
 {

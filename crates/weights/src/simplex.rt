@@ -77,23 +77,18 @@ pub fn less(x: &mut [f64; 32], d: &[f64; 32], t: f64) {
 }
 
 impl Simplex {
-    // The basis of the single combinations. They count for a little more than 1 each, all unlike, which ends every tie between rows.
-    pub fn new(need: u32) -> Simplex {
-        let mut start = Simplex {
-            inverse: [[0.0; 32]; 32],
-            x: [0.0; 32],
-            y: [0.0; 32],
-        };
+    // Begins with the basis of the single combinations, where all was 0. They count for a little more than 1 each, all unlike, which ends
+    // every tie between rows.
+    pub fn begin(&mut self, need: u32) {
         let mut one = 1.0;
         for c in 0..32 {
-            start.inverse[c][c] = 1.0;
-            start.x[c] = one;
+            self.inverse[c][c] = 1.0;
+            self.x[c] = one;
             one += 0.00001;
             if need >> c & 1 == 1 {
-                start.y[c] = 1.0;
+                self.y[c] = 1.0;
             }
         }
-        start
     }
 
     // The column of a set of combinations.

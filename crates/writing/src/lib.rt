@@ -1,124 +1,100 @@
 // Writing a sheet's stored form into a lent area.
 #![tactic(auto)]
 
-ghost use Rattle.std.specs.Prelude.{◌≡◌, ◌+◌, ◌^◌, ◌≤◌, ◌<◌, length};
-ghost use Rattle.ground.specs.Areas.{Wrote};
+ghost use Rattle.std.specs.Prelude.{◌≡◌, ◌≤◌, ◌<◌, length};
+ghost use Rattle.print.specs.Pages.{Puts, HasRoom};
 ghost use Rattle.sheet.specs.Limits.{most_marks, entries};
 ghost use Rattle.sheet.specs.Sound.{Ready};
+ghost use Rattle.sheet.specs.Told.{value_of};
 ghost use Rattle.stored.specs.Form.{bytes, profile_bytes};
 ghost use Rattle.stored.specs.Answers.{Writes};
 ghost use Rattle.writing.specs.Sections.{entry_text, list_in, count_in, section_in, Owns, GroupsFit};
 
+use print::Page;
 use profiles::Profile;
-use sheet::{Sheet, Value};
+use refusals::Refusal;
+use sheet::Sheet;
 use stored::Section;
 
 // A number in k bytes, low byte first.
-fn put_bytes(out: &mut [u8], at: usize, k: usize, n: u64) -> usize
-    requires { at + k ≤ length out.old }
-    ensures { Wrote out.old at (bytes k n) result out.new }
+fn put_bytes(page: &mut Page<'_>, k: usize, n: u64)
+    requires few { k ≤ 8 }
+    requires room { HasRoom page.old k }
+    ensures { Puts page.old page.new (bytes k n) }
 {
-    let mut next = at;
-    let mut rest = n;
-    for i in 0..k {
-        next = ground::put_byte(out, next, (rest % 256) as u8);
-        rest = rest / 256;
-    }
-    next
+    page.put(&n.to_le_bytes()[..k]);
 }
 
 // The combination c, with the number x that it has in the section in k bytes behind it, if that is not 0.
-fn put_entry(out: &mut [u8], at: usize, c: usize, x: u32, k: usize) -> usize
+fn put_entry(page: &mut Page<'_>, c: usize, x: u32, k: usize)
+    requires few { k ≤ 8 }
     requires c_bound { c < 256 }
-    requires x_in_bounds { at + length (entry_text k c x) ≤ length out.old }
-    ensures { Wrote out.old at (entry_text k c x) result out.new }
+    requires room { HasRoom page.old (length (entry_text k c x)) }
+    ensures { Puts page.old page.new (entry_text k c x) }
 {
     if x == 0 {
-        return at;
+        return;
     }
-    let next = ground::put_byte(out, at, c as u8);
-    put_bytes(out, next, k, ground::wide(x))
+    page.put_byte(c as u8);
+    put_bytes(page, k, u64::from(x));
 }
 
 // The combinations of a section, `has` telling what each has in it.
-fn put_list(out: &mut [u8], at: usize, m: usize, has: &[u32; 32], k: usize) -> usize
-    requires m_le_most_marks { m ≤ most_marks }
-    requires has_in_bounds { at + length (list_in k m has.now) ≤ length out.old }
-    ensures { Wrote out.old at (list_in k m has.now) result out.new }
+fn put_list(page: &mut Page<'_>, has: &[u32], k: usize)
+    requires few { k ≤ 8 }
+    requires has_bound { length has.now ≤ 32 }
+    requires room { HasRoom page.old (length (list_in k has.now)) }
+    ensures { Puts page.old page.new (list_in k has.now) }
 {
-    let n = boxes::power2(m);
-    let mut next = at;
-    for c in 0..n {
-        next = put_entry(out, next, c, has[c], k);
+    for (c, x) in has.iter().enumerate() {
+        put_entry(page, c, *x, k);
     }
-    next
 }
 
 // How many combinations stand in a section.
-fn size(m: usize, has: &[u32; 32]) -> u64
-    requires { m ≤ most_marks }
-    ensures { (result ≡ count_in m has.now) × (result ≤ 2 ^ most_marks) }
+fn size(has: &[u32]) -> usize
+    ensures { result ≡ count_in has.now }
 {
-    let n = boxes::power2(m);
-    let mut size: u64 = 0;
-    for c in 0..n {
-        if has[c] != 0 {
-            size += 1;
-        }
-    }
-    size
+    has.iter().filter(|x| 0 < **x).count()
 }
 
 // A section of n combinations: its count, and those.
-fn put_section(
-    out: &mut [u8],
-    at: usize,
-    m: usize,
-    has: &[u32; 32],
-    section: Section,
-    n: u64,
-) -> usize
-    requires m_le_most_marks { m ≤ most_marks }
-    requires n_value { n ≡ count_in m has.now }
-    requires has_in_bounds { at + length (section_in section m has.now) ≤ length out.old }
-    ensures { Wrote out.old at (section_in section m has.now) result out.new }
+fn put_section(page: &mut Page<'_>, has: &[u32], section: Section, n: usize)
+    requires has_bound { length has.now ≤ 32 }
+    requires n_value { n ≡ count_in has.now }
+    requires room { HasRoom page.old (length (section_in section has.now)) }
+    ensures { Puts page.old page.new (section_in section has.now) }
 {
-    let first = put_bytes(out, at, 2, n);
-    put_list(out, first, m, has, section.bytes_behind())
+    put_bytes(page, 2, n as u64);
+    put_list(page, has, section.bytes_behind());
 }
 
-// How many bytes a profile has.
-fn profile_size(profile: Profile) -> u64
-    ensures { (result ≡ length (profile_bytes profile)) × (result ≤ 4) }
+// How many bytes a profile has. A table would need the case as a number, so it is no plainer.
+fn profile_size(profile: Profile) -> usize
+    ensures size { result ≡ length (profile_bytes profile) }
+    ensures few { result ≤ 4 }
 {
     match profile {
         Profile::None => 0,
-        Profile::One(g) => 3,
-        Profile::Two(g, h) => 4,
+        Profile::One(_) => 3,
+        Profile::Two(_, _) => 4,
     }
 }
 
-// A profile: how many groups it has, and each in one byte.
-fn put_profile(out: &mut [u8], at: usize, profile: Profile) -> usize
+// A profile: how many groups it has, in two bytes, and each in one.
+fn put_profile(page: &mut Page<'_>, profile: Profile)
     requires groups_fit { GroupsFit profile }
-    requires profile_in_bounds { at + length (profile_bytes profile) ≤ length out.old }
-    ensures { Wrote out.old at (profile_bytes profile) result out.new }
+    requires room { HasRoom page.old (length (profile_bytes profile)) }
+    ensures { Puts page.old page.new (profile_bytes profile) }
 {
     match profile {
-        Profile::None => at,
-        Profile::One(g) => {
-            let first = put_bytes(out, at, 2, 1);
-            ground::put_byte(out, first, g as u8)
-        }
-        Profile::Two(g, h) => {
-            let first = put_bytes(out, at, 2, 2);
-            let second = ground::put_byte(out, first, g as u8);
-            ground::put_byte(out, second, h as u8)
-        }
+        Profile::None => {}
+        Profile::One(g) => page.put(&[1, 0, g as u8]),
+        Profile::Two(g, h) => page.put(&[2, 0, g as u8, h as u8]),
     }
 }
 
-// What each combination has of its own in a table.
+// What each combination has of its own in a table, and 0 where there is no such combination.
 fn owns(m: usize, t: &[u32]) -> [u32; 32]
     requires m_le_most_marks { m ≤ most_marks }
     requires entries_in_bounds { entries ≤ length t.now }
@@ -126,54 +102,49 @@ fn owns(m: usize, t: &[u32]) -> [u32; 32]
 {
     let n = boxes::power2(m);
     let mut has = [0u32; 32];
-    for c in 0..n {
-        has[c] = t[boxes::single(m, c)];
+    for (c, has) in has.iter_mut().enumerate() {
+        if c < n {
+            *has = t[boxes::single(m, c)];
+        }
     }
     has
 }
 
-// Writes a sheet that is known to be sound: no entry is tested again.
-pub fn write_sound(sheet: Sheet, out: &mut [u8]) -> Value
-    requires { Ready most_marks sheet }
-    ensures { Writes most_marks sheet out.old result out.new }
+// Writes a sheet that is known to be sound: no entry is tested again. It stands beside `write`, since docs/CONTRACTS.md promises both.
+#[tactic(auto, using(sheet::proofs::Limits::marks_most, sheet::proofs::Opening::combinations_fit))]
+pub fn write_sound(sheet: &Sheet, out: &mut [u8]) -> Result<u64, Refusal>
+    requires { Ready most_marks sheet.now }
+    ensures { Writes most_marks sheet.now out.old (value_of result) out.new }
 {
     let m = sheet.marks;
-    let outside = sheet.outside;
-    let either = sheet.either;
-    let held = sheet.held;
-    let profile = sheet.profile;
-    let eithers = owns(m, &either);
-    let class = stored::neither(&owns(m, &outside), &eithers);
-    let times = owns(m, &held);
-    let a = size(m, &class);
-    let e = size(m, &eithers);
-    let b = size(m, &times);
-    if (out.len() as u64) < 7 + a + e + b * 5 + profile_size(profile) {
-        return Value {
-            number: 5,
-            value: 0,
-        };
+    let n = boxes::power2(m);
+    let eithers = owns(m, &sheet.either);
+    let ins = stored::neither(&owns(m, &sheet.outside), &eithers);
+    let times = owns(m, &sheet.held);
+    let class = &ins[..n];
+    let either = &eithers[..n];
+    let held = &times[..n];
+    let a = size(class);
+    let e = size(either);
+    let b = size(held);
+    if out.len() < 7 + a + e + b * 5 + profile_size(sheet.profile) {
+        return Err(Refusal::Room);
     }
-    let first = ground::put_byte(out, 0, m as u8);
-    let second = put_section(out, first, m, &class, Section::Class, a);
-    let third = put_section(out, second, m, &eithers, Section::Either, e);
-    let fourth = put_section(out, third, m, &times, Section::Held, b);
-    let end = put_profile(out, fourth, profile);
-    Value {
-        number: 0,
-        value: end as u64,
-    }
+    let mut page = Page::new(out);
+    page.put_byte(m as u8);
+    put_section(&mut page, class, Section::Class, a);
+    put_section(&mut page, either, Section::Either, e);
+    put_section(&mut page, held, Section::Held, b);
+    put_profile(&mut page, sheet.profile);
+    Ok(page.len as u64)
 }
 
-// Writes a sheet's form in front of the lent area, and answers its length; or the number of a refusal.
-pub fn write(sheet: Sheet, out: &mut [u8]) -> Value
-    ensures { Writes most_marks sheet out.old result out.new }
+// Writes a sheet's form in front of the lent area, and answers its length.
+pub fn write(sheet: &Sheet, out: &mut [u8]) -> Result<u64, Refusal>
+    ensures { Writes most_marks sheet.now out.old (value_of result) out.new }
 {
     if !sheet.ready() {
-        return Value {
-            number: 7,
-            value: 0,
-        };
+        return Err(Refusal::Spoiled);
     }
     write_sound(sheet, out)
 }

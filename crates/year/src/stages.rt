@@ -1,6 +1,6 @@
 // The stages of a session: what a line and the end of the input do.
 ghost use Rattle.std.specs.Prelude.{◌≤◌, length};
-ghost use Rattle.machine.specs.AtHand.{row_of, LineFits};
+ghost use Rattle.machine.specs.AtHand.{told, row_of};
 ghost use Rattle.machine.specs.Steps.{page_room};
 ghost use Rattle.year.specs.States.{kind};
 ghost use Rattle.year.specs.Parts.{YearTaken, MarksTaken};
@@ -26,11 +26,10 @@ pub enum Year {
 impl Year {
     // Line 1 has ended.
     fn year_line(&mut self, line: &Line, out: &mut [u8]) -> usize
-        requires line_fits { LineFits line.now }
-        requires page_room_in_bounds { page_room ≤ length out.old }
-        ensures { YearTaken line.now.number (row_of line.now) out.old self.new result out.new }
+        requires { page_room ≤ length out.old }
+        ensures { YearTaken line.now.number (row_of (told line.now)) out.old self.new result out.new }
     {
-        match year_lines::year_of(*line) {
+        match year_lines::year_of(line) {
             Some(year) => {
                 *self = Year::Opening(year);
                 0
@@ -44,9 +43,8 @@ impl Year {
 
     // Line 2 has ended.
     fn marks_line(&mut self, year: usize, line: &Line, out: &mut [u8]) -> usize
-        requires line_fits { LineFits line.now }
-        requires page_room_in_bounds { page_room ≤ length out.old }
-        ensures { MarksTaken year line.now.number (row_of line.now) out.old self.new result out.new }
+        requires { page_room ≤ length out.old }
+        ensures { MarksTaken year line.now.number (row_of (told line.now)) out.old self.new result out.new }
     {
         match desk::first_answer(line) {
             Ok(sheet) => {
@@ -83,7 +81,7 @@ impl Program for Year {
                 self.marks_line(year, line, out)
             }
             Year::Going(booked) => {
-                let answer = match year_lines::slip_of(*line, booked.sheet.marks) {
+                let answer = match year_lines::slip_of(line, booked.sheet.marks) {
                     Slip::Dated(date, call, _) => booked.on_day(date, call),
                     Slip::Plain(Order::Make(call, _)) => booked.undated(call),
                     Slip::Plain(Order::Unreadable) => Err(Refusal::Unreadable(0)),

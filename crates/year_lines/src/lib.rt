@@ -2,7 +2,7 @@
 #![tactic(auto)]
 
 ghost use Rattle.std.specs.Prelude.{◌≤◌};
-ghost use Rattle.machine.specs.AtHand.{row_of, LineFits};
+ghost use Rattle.machine.specs.AtHand.{told, row_of};
 ghost use Rattle.year_lines.specs.Slips.{NamesYear, RowNames, Asked, RowAsks};
 ghost use Rattle.year_lines.specs.Parts.{DatedOr};
 
@@ -59,29 +59,23 @@ pub fn read(line: &[u8], m: usize) -> Slip
     Slip::Plain(lines::read(line, m))
 }
 
-// What the line at hand says as line 1; one that is too long or cut off names no year.
-pub fn year_of(line: Line) -> Option<usize>
-    requires { LineFits line }
-    ensures { RowNames (row_of line) result }
+// The year that the line at hand names as line 1; one that is too long or cut off names none.
+pub fn year_of(line: &Line) -> Option<usize>
+    ensures { RowNames (row_of (told line.now)) result }
 {
-    if line.long {
+    let Some(text) = line.text() else {
         return None;
-    }
-    let len = line.len;
-    let text = line.text;
-    read_year(&text[..len])
+    };
+    read_year(text)
 }
 
 // What the line at hand asks for behind line 2; one that is too long or cut off is unreadable.
-pub fn slip_of(line: Line, m: usize) -> Slip
-    requires line_fits { LineFits line }
-    requires m_bound { m ≤ 8 }
-    ensures { RowAsks m (row_of line) result }
+pub fn slip_of(line: &Line, m: usize) -> Slip
+    requires { m ≤ 8 }
+    ensures { RowAsks m (row_of (told line.now)) result }
 {
-    if line.long {
+    let Some(text) = line.text() else {
         return Slip::Plain(Order::Unreadable);
-    }
-    let len = line.len;
-    let text = line.text;
-    read(&text[..len], m)
+    };
+    read(text, m)
 }

@@ -19,8 +19,7 @@ pub loop-b-preserved : goal.loop-b-preserved
 loop-b-preserved c =
     let a = c.args in
     let l = c.loop-b in
-    let lt = c.loop-b-test.true in
-    let row = c.requires.1 l.b (omega (arith, lt)) in
+    let row = c.requires.1 l.b (omega arith) in
     elim c.if-set-room.branch [
       | then-set-room+else-minus-plus w ↦ rw w.known-is
           (simp length-set l.invariant.0, priced_set a.m a.need a.room (value_at a.weights.now.plus) (value_at a.weights.now.minus) l.known.costs l.b l.invariant.1 _ _ row.1 (omega (arith, boxes_mono c.requires.0)) (omega arith))
@@ -38,6 +37,6 @@ pub returns : goal.returns
 returns c =
     let l = c.loop-b in
     let e : l.b ≡ 3 ^ c.args.m = omega arith in
-    rw (c.weight_of.ensures.all, c.weight_of-2.ensures.all)
+    rw (c.weight_of-known.ensures.all, c.weight_of-known-2.ensures.all)
     (priced_all c.args.m c.args.need c.args.room (value_at c.args.weights.now.plus) (value_at c.args.weights.now.minus) l.known.costs l.b l.invariant.1 e
-    (rw c.weight_of-2.ensures.all at c.weight_of-2.ensures.small))
+    (rw c.weight_of-known-2.ensures.all at c.weight_of-known-2.ensures.small))

@@ -1,16 +1,9 @@
--- By whether the line is too long; else as its bytes read.
-use mathlib.Core.Path.{sym}
-use native.Mathlib.Omega.{arith}
-use lib.Seq.{length-take-le}
-use Rattle.machine.proofs.AtHand.{row_long, row_short}
+-- By whether the line can be read; else as its bytes read.
 use Rattle.lines.specs.Words.{RowOpens}
 use Rattle.lines.proofs.first_of.Goals as goal
 
-pub returns-then-line : goal.returns-then-line
-returns-then-line c = rw (row_long c.args.line c.if-line.true) RowOpens.lost
-
-pub slice_bounds-read_marks-end : goal.slice_bounds-read_marks-end
-slice_bounds-read_marks-end c = sym (length-take-le _ _ (omega arith))
+pub returns-in_default : goal.returns-in_default
+returns-in_default c = rw c.in_default.ensures RowOpens.lost
 
 pub returns : goal.returns
-returns c = rw (row_short c.args.line c.if-line.false) (RowOpens.read c.read_marks.ensures)
+returns c = rw c.in-Some.ensures (RowOpens.read c.read_marks.ensures)

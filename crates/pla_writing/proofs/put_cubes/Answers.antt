@@ -1,41 +1,26 @@
-use mathlib.Core.Path.{refl, ap, ◌∙◌}
-use native.Mathlib.Omega.{arith}
-use lib.Seq.{take_all}
-use Rattle.ground.proofs.Areas.{wrote_none, wrote_text}
+use Rattle.std.proofs.Common.{arith, ap}
+use Rattle.std.proofs.lemmas.List.{take_all}
 use Rattle.print.proofs.Digits.{pattern-length}
+use Rattle.print.proofs.Pages.{puts_nothing, puts_text}
 use Rattle.pla.specs.Writing.{cube_lines}
 use Rattle.pla_writing.proofs.Laws.{line_has_room, line_put}
 use Rattle.pla_writing.proofs.put_cubes.Goals as goal
 
-pub loop-i-init : goal.loop-i-init
+pub loop-b-init : goal.loop-b-init
 unfolding cube_lines
-loop-i-init c = (omega arith, refl, wrote_none _ _)
+loop-b-init c = puts_nothing _
 
-pub put_pattern-next-requires : goal.put_pattern-next-requires
-put_pattern-next-requires c =
-    let l = c.loop-i in
-    omega (arith, line_has_room c.args.m c.args.list.now l.i (omega arith))
+pub put_pattern-requires : goal.put_pattern-requires
+put_pattern-requires c = let l = c.loop-b in omega (arith, line_has_room c.args.m c.args.list.now l.b-index (omega arith), l.invariant.len, l.invariant.long)
 
-pub put-next-requires : goal.put-next-requires
-put-next-requires c =
-    let l = c.loop-i in
-    let p = c.put_pattern-next in
-    omega (arith, line_has_room c.args.m c.args.list.now l.i (omega arith), p.auto.out, p.ensures.place, pattern-length c.args.m c.byte.result)
+pub put-requires : goal.put-requires
+put-requires c =
+    let l = c.loop-b in
+    let p = c.put_pattern.ensures in
+    omega (arith, line_has_room c.args.m c.args.list.now l.b-index (omega arith), l.invariant.len, l.invariant.long, p.len, p.long, pattern-length c.args.m c.from.result)
 
-pub loop-i-preserved : goal.loop-i-preserved
-loop-i-preserved c =
-    let l = c.loop-i in
-    let p = c.put_pattern-next in
-    let q = c.put-next in (
-      omega arith,
-      q.auto.out ∙ p.auto.out ∙ l.invariant.1,
-      line_put c.args.m c.args.list.now l.i (omega arith) c.requires c.byte.ensures.0 l.invariant.2 p.ensures q.ensures,
-    )
-
-pub shape_of-out : goal.shape_of-out
-shape_of-out c = c.loop-i.invariant.1
+pub loop-b-preserved : goal.loop-b-preserved
+loop-b-preserved c = let l = c.loop-b in line_put c.args.m c.args.list.now l.b-index (omega arith) c.from.ensures l.invariant c.put_pattern.ensures c.put.ensures
 
 pub returns : goal.returns
-returns c =
-    let l = c.loop-i in
-    wrote_text (ap (cube_lines c.args.m) (take_all l.i c.args.list.now (omega arith))) l.invariant.2
+returns c = let l = c.loop-b in puts_text (ap (cube_lines c.args.m) (take_all l.b-index c.args.list.now (omega arith))) l.invariant

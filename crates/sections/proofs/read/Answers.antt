@@ -10,4 +10,5 @@ returns-in_err-count c =
 
 pub returns : goal.returns
 returns c =
-    part_after (λ rest r b. count_taken c.args.section rest r b.marks (rw c.power2.ensures.0 at c.in_ok-count.ensures.read)) _ _ c.read_entries.ensures
+    part_after c.args.section c.args.barred.now c.args.form.now c.field.new.self c.in_ok-count.ensures.read.marks
+    (λ rest r b. count_taken c.args.section rest r b.marks (rw c.power2.ensures.0 at c.in_ok-count.ensures.read)) _ _ c.read_entries.ensures

@@ -3,6 +3,6 @@ use Rattle.std.proofs.Common.{◌-◌, ◌^◌, ◌≡◌}
 use Rattle.sections.proofs.Entries.{EntriesReached}
 use Rattle.sections.proofs.read_entries.Given as goal
 
-abbrev pub invariant-loop-i : goal.invariant-loop-i
-invariant-loop-i l =
-    (l.top ≡ 2 ^ l.m - 1) × EntriesReached l.section l.m l.barred l.n l.initial.form l.form l.own l.low (l.n - l.i) l.sum
+abbrev pub invariant-loop : goal.invariant-loop
+invariant-loop l =
+    (l.top ≡ 2 ^ l.initial.form.marks - 1) × EntriesReached l.section l.initial.form.marks l.barred l.n l.initial.form l.form l.own l.low (l.n - l.counter) l.sum

@@ -1,71 +1,45 @@
-use Prim.Native.Nat.{ℕ, ◌+◌, ◌*◌, ◌≤◌}
-use mathlib.Core.Path.{◌≡◌, ◌∙◌, sym, ap}
-use native.Mathlib.Omega.{arith}
-use native.Mathlib.Nat.{mul-le-mul_right, pow-le-pow_right}
-use lib.Count.{ones, ones-le}
+use Rattle.std.proofs.Common.{◌≡◌, sym, ap, ◌∙◌, ℕ, ◌+◌, ◌*◌, ◌^◌, ◌<◌, ◌≤◌, length, arith}
+use lib.Seq.{length-take-le}
 use borrow.Author.Count.{below_more}
 use Rattle.boxes.specs.Boxes.{through}
+use Rattle.boxes.proofs.Choices.{through-lt}
 use Rattle.tables.specs.Parts.{fits_moved}
+use Rattle.tables.proofs.Moves.{through_taken}
 use Rattle.tables.proofs.Touched.{touched_all, touched_no, turn_judged}
 use Rattle.tables.proofs.fits_at.Goals as goal
-use Rattle.tables.proofs.fits_at.Goals.{After-fits, After-power2-size, In-loop-k}
+use Rattle.tables.proofs.fits_at.Goals.{After-fits, After-from}
+
+box : (c : After-from) → (c.loop-k.k < 2 ^ c.args.m) × (c.from.result ≡ through c.args.m c.args.c c.loop-k.k)
+box c =
+    let at = through_taken c.args.m c.args.c c.power2.result c.loop-k.k c.all_through-all.result c.all_through-all.ensures c.power2.ensures.0 (omega arith) c.loop-k-test.true in
+    (at.0, c.from.ensures ∙ at.1)
 
 -- the box of this turn
-here : (c : After-fits)
+here : (c : After-fits) → (c.loop-k.k < 2 ^ c.args.m) × (c.from.result ≡ through c.args.m c.args.c c.loop-k.k)
     → let a = c.args in
     fits_moved a.m a.by a.t.now a.most a.each (through a.m a.c c.loop-k.k) ≡ c.fits.result
-here c =
-    let l = c.loop-k in
+here c b =
     let a = c.args in
-    turn_judged a.m a.c l.k a.by a.t.now a.most a.each c.through-b.result _ _
-    (omega arith) c.through-b.ensures.0
+    turn_judged a.m a.c c.loop-k.k a.by a.t.now a.most a.each c.from.result _ _ b.0 b.1
     (ap (λ (s : ℕ). a.most + a.each * s) c.power2-size.ensures.0) c.fits.ensures
 
-few : (c : In-loop-k) → ones c.loop-k.k ≤ 8
-few c = ones-le 8 c.loop-k.k (omega (arith, pow-le-pow_right {n = 2} (omega arith) {i = c.args.m} {j = 8} c.requires.over.marks))
-
-more_at_most : (c : After-power2-size) → c.args.each * c.power2-size.result ≤ 256
-more_at_most c = omega (arith, mul-le-mul_right c.power2-size.result c.requires.most_bound.1)
-
-pub all_through-all-requires : goal.all_through-all-requires
-all_through-all-requires c = c.requires.over.marks
-
-pub power2-n-requires : goal.power2-n-requires
-power2-n-requires c = c.requires.over.marks
-
-pub loop-k-init : goal.loop-k-init
-loop-k-init c = (omega arith, c.power2-n.ensures.0, λ u l. absurd (omega arith))
-
-pub through-b-requires : goal.through-b-requires
-through-b-requires c =
-    let l = c.loop-k in
-    (c.requires.over.marks, c.all_through-all.ensures, omega arith)
-
-pub overflow_cast-k : goal.overflow_cast-k
-overflow_cast-k c = omega (arith, few (goal.at.overflow_cast-k c).In-loop-k)
-
-pub power2-size-requires : goal.power2-size-requires
-power2-size-requires c = few (goal.at.power2-size-requires c).In-loop-k
-
-pub bounds-t-b : goal.bounds-t-b
-bounds-t-b c = omega arith
-
-pub overflow_mul-each : goal.overflow_mul-each
-overflow_mul-each c = omega (arith, more_at_most (goal.at.overflow_mul-each c).After-power2-size)
-
-pub overflow_add-most : goal.overflow_add-most
-overflow_add-most c = omega (arith, more_at_most (goal.at.overflow_add-most c).After-power2-size)
+pub bounds-t-from : goal.bounds-t-from
+bounds-t-from c =
+    let b = box (goal.at.bounds-t-from c).After-from in
+    omega (arith, b.1, through-lt c.args.m c.args.c c.loop-k.k)
 
 pub returns-then-not-fits : goal.returns-then-not-fits
 returns-then-not-fits c =
-    let k = c.loop-k.k in
-    sym (touched_no c.args.m c.args.c (fits_moved c.args.m c.args.by c.args.t.now c.args.most c.args.each) k c.requires.over.low (here (goal.at.returns-then-not-fits c).After-fits ∙ c.if-not-fits.true))
+    let at = goal.at.returns-then-not-fits c in
+    sym (touched_no c.args.m c.args.c (fits_moved c.args.m c.args.by c.args.t.now c.args.most c.args.each) c.loop-k.k c.requires.over.low (here at.After-fits (box at.After-from) ∙ c.if-not-fits.true))
 
 pub loop-k-preserved : goal.loop-k-preserved
 loop-k-preserved c =
-    let l = c.loop-k in
-    (omega arith, l.invariant.1, below_more _ _ l.invariant.2 (here (goal.at.loop-k-preserved c).After-fits ∙ c.if-not-fits.false))
+    let at = goal.at.loop-k-preserved c in
+    below_more _ _ c.loop-k.invariant (here at.After-fits (box at.After-from) ∙ c.if-not-fits.false)
 
 pub returns : goal.returns
 returns c =
-    sym (touched_all c.args.m c.args.c (fits_moved c.args.m c.args.by c.args.t.now c.args.most c.args.each) (λ u l. c.loop-k.invariant.2 u (omega arith)))
+    let long : c.power2.result ≤ length c.all_through-all.result = omega arith in
+    let end = length-take-le c.power2.result c.all_through-all.result long in
+    sym (touched_all c.args.m c.args.c (fits_moved c.args.m c.args.by c.args.t.now c.args.most c.args.each) (λ u l. c.loop-k.invariant u (omega (arith, end))))

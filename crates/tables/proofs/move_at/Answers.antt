@@ -1,60 +1,50 @@
-use Prim.Native.Nat.{ℕ, ◌+◌, ◌^◌}
-use mathlib.Core.Path.{◌≡◌, sym, ◌∙◌, subst}
-use native.Mathlib.Omega.{arith}
+use Rattle.std.proofs.Common.{◌≡◌, sym, subst, ◌∙◌, ℕ, ◌+◌, ◌^◌, ◌≤◌, length, arith}
 use lib.ListN.{set}
+use lib.Seq.{length-take-le}
+use Rattle.ground.proofs.Cases.{clash}
 use Rattle.tables.specs.Tables.{shifted}
 use Rattle.tables.specs.Parts.{Bears}
-use Rattle.tables.proofs.Moves.{MovedUpTo, Turn, moved-start, moved_turn, moved_all}
+use Rattle.tables.proofs.Moves.{MovedUpTo, Turn, moved-start, moved_turn, moved_all, through_taken}
 use Rattle.tables.proofs.Shifts.{moved_stays}
 use Rattle.tables.proofs.move_at.Goals as goal
-use Rattle.tables.proofs.move_at.Goals.{After-slice_known-in-loop-k-1}
+use Rattle.tables.proofs.move_at.Goals.{After-from-b, in-Stays, in_default}
 
-turn : (c : After-slice_known-in-loop-k-1)
+turn : (c : After-from-b)
     → let s = c.args in
-    let l = c.loop-k in
-    Turn s.m s.c l.k (shifted s.by) s.t.now l.t c.through-b.result
+    let l = c.loop-b in
+    Turn s.m s.c l.b-index (shifted s.by) s.t.now l.t c.from-b.result
 turn c =
-    let l = c.loop-k in
-    moved_turn l.invariant.2 (omega arith) c.requires.over.low c.requires.over.long _ c.through-b.ensures.0
+    let l = c.loop-b in
+    let at = through_taken c.args.m c.args.c c.power2.result l.b-index c.all_through-all.result c.all_through-all.ensures c.power2.ensures.0 (omega arith) c.loop-b-test.true in
+    moved_turn l.invariant at.0 c.requires.over.low c.requires.over.long _ (c.from-b.ensures ∙ at.1)
 
-pub returns-then-is_none : goal.returns-then-is_none
-returns-then-is_none c = moved_stays _ _ c.args.by _ (sym c.is_none.ensures ∙ c.if-is_none.true)
+pub returns-then-matches : goal.returns-then-matches
+returns-then-matches c = (elim c.match-matches.branch [ in-Stays w ↦ rw w.in-Stays.is (moved_stays c.args.m c.args.c c.args.t.now) | in_default w ↦ clash c.if-matches.true w.matches-is ])
 
-pub all_through-all-requires : goal.all_through-all-requires
-all_through-all-requires c = c.requires.over.marks
+pub loop-b-init : goal.loop-b-init
+loop-b-init c = moved-start _ _ _ _
 
-pub power2-turns-requires : goal.power2-turns-requires
-power2-turns-requires c = c.requires.over.marks
-
-pub loop-k-init : goal.loop-k-init
-loop-k-init c = (omega arith, c.power2-turns.ensures.0, moved-start _ _ _ _)
-
-pub through-b-requires : goal.through-b-requires
-through-b-requires c =
-    let l = c.loop-k in
-    (c.requires.over.marks, c.all_through-all.ensures, omega arith)
+pub bounds-t-b : goal.bounds-t-b
+bounds-t-b c = (turn (goal.at.bounds-t-b c).After-from-b).inside
 
 pub of-requires : goal.of-requires
 of-requires c =
-    let w = turn c in
+    let w = turn (goal.at.of-requires c).After-from-b in
     subst (Bears c.args.by) (sym w.still) (c.requires.all_bear _ w.touches)
 
-pub bounds-t-b-in-loop-k : goal.bounds-t-b-in-loop-k
-bounds-t-b-in-loop-k c = (turn (goal.at.bounds-t-b-in-loop-k c).After-slice_known-in-loop-k-1).inside
+pub bounds-t-b-in-loop-b : goal.bounds-t-b-in-loop-b
+bounds-t-b-in-loop-b c = (turn (goal.at.bounds-t-b-in-loop-b c).After-from-b).inside
 
-pub loop-k-preserved : goal.loop-k-preserved
-loop-k-preserved c =
-    let l = c.loop-k in
+pub loop-b-preserved : goal.loop-b-preserved
+loop-b-preserved c =
+    let l = c.loop-b in
     let a = c.args in
-    let b = c.through-b.result in
-    (omega arith, l.invariant.1, subst (λ (x : ℕ). MovedUpTo a.m a.c (l.k + 1) (shifted a.by) a.t.now (set l.t b x)) (sym c.of.ensures) (turn (goal.at.loop-k-preserved c).After-slice_known-in-loop-k-1).moves)
-
-pub shape_of-t : goal.shape_of-t
-shape_of-t c = c.loop-k.invariant.2.long
+    subst (λ (x : ℕ). MovedUpTo a.m a.c (l.b-index + 1) (shifted a.by) a.t.now (set l.t c.from-b.result x)) (sym c.of.ensures) (turn (goal.at.loop-b-preserved c).After-from-b).moves
 
 pub returns : goal.returns
 returns c =
-    let l = c.loop-k in
+    let l = c.loop-b in
     let a = c.args in
-    let e : l.k ≡ 2 ^ a.m = omega arith in
-    moved_all a.by (subst (λ (k : ℕ). MovedUpTo a.m a.c k (shifted a.by) a.t.now l.t) e l.invariant.2)
+    let long : c.power2.result ≤ length c.all_through-all.result = omega arith in
+    let e : l.b-index ≡ 2 ^ a.m = omega (arith, length-take-le c.power2.result c.all_through-all.result long) in
+    moved_all a.by (subst (λ (k : ℕ). MovedUpTo a.m a.c k (shifted a.by) a.t.now l.t) e l.invariant)

@@ -1,12 +1,7 @@
--- After k turns the boxes through c with free marks below k have moved, and no other entry has.
-use Prim.Native.Nat.{◌-◌, ◌^◌, ◌≤◌}
-use mathlib.Core.Path.{◌≡◌}
+-- The boxes through c of the turns so far have moved, and no other entry has.
 use Rattle.tables.specs.Tables.{shifted}
 use Rattle.tables.proofs.Moves.{MovedUpTo}
 use Rattle.tables.proofs.move_at.Given as goal
 
-abbrev pub invariant-loop-k : goal.invariant-loop-k
-invariant-loop-k l = (l.k ≤ l.turns) × (l.turns ≡ 2 ^ l.m) × MovedUpTo l.m l.c l.k (shifted l.by) l.initial.t l.t
-
-abbrev pub decreases-loop-k : goal.decreases-loop-k
-decreases-loop-k l = l.turns - l.k
+abbrev pub invariant-loop-b : goal.invariant-loop-b
+invariant-loop-b l = MovedUpTo l.m l.c l.b-index (shifted l.by) l.initial.t l.t

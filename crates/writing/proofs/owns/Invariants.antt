@@ -1,11 +1,7 @@
 -- The combinations below c have what the table has of their own.
-use Prim.Native.Nat.{◌-◌, ◌^◌, ◌≤◌}
-use mathlib.Core.Path.{◌≡◌}
-use Rattle.writing.proofs.Laws.{OwnsBelow}
+use Rattle.std.proofs.Common.{◌≡◌, ℕ, ◌<◌, ◌^◌, slice_index}
+use Rattle.tables.specs.Tables.{own}
 use Rattle.writing.proofs.owns.Given as goal
 
 abbrev pub invariant-loop-c : goal.invariant-loop-c
-invariant-loop-c l = (l.c ≤ l.n) × (l.n ≡ 2 ^ l.m) × OwnsBelow l.m l.t l.c l.has
-
-abbrev pub decreases-loop-c : goal.decreases-loop-c
-decreases-loop-c l = l.n - l.c
+invariant-loop-c l = (k : ℕ) → k < l.c → k < 2 ^ l.m → slice_index l.has-items k ≡ own l.m l.t k

@@ -1,11 +1,10 @@
 -- By its groups.
-use mathlib.Core.Path.{sym}
-use native.Mathlib.Omega.{arith}
-use Rattle.writing.proofs.Groups.{one_length, two_length}
+use Rattle.std.proofs.Common.{sym, ap, length}
+use Rattle.writing.proofs.Groups.{one_text, two_text}
 use Rattle.writing.proofs.profile_size.Goals as goal
 
-pub returns-in-One : goal.returns-in-One
-returns-in-One c = (sym (one_length c.in-One.is), omega arith)
+pub returns-in-One-clause-size : goal.returns-in-One-clause-size
+returns-in-One-clause-size c = sym (ap length (one_text _ c.in-One.is))
 
-pub returns-in-Two : goal.returns-in-Two
-returns-in-Two c = (sym (two_length c.in-Two.is), omega arith)
+pub returns-in-Two-clause-size : goal.returns-in-Two-clause-size
+returns-in-Two-clause-size c = sym (ap length (two_text _ _ c.in-Two.is))

@@ -1,16 +1,9 @@
--- By whether the line is too long; else as its bytes read.
-use mathlib.Core.Path.{sym}
-use native.Mathlib.Omega.{arith}
-use lib.Seq.{length-take-le}
-use Rattle.machine.proofs.AtHand.{row_long, row_short}
+-- By whether the line can be read; else as its bytes read.
 use Rattle.year_lines.specs.Slips.{RowAsks}
 use Rattle.year_lines.proofs.slip_of.Goals as goal
 
-pub returns-then-line : goal.returns-then-line
-returns-then-line c = rw (row_long c.args.line c.if-line.true) RowAsks.lost
-
-pub slice_bounds-read-end : goal.slice_bounds-read-end
-slice_bounds-read-end c = sym (length-take-le _ _ (omega arith))
+pub returns-in_default : goal.returns-in_default
+returns-in_default c = rw c.in_default.ensures RowAsks.lost
 
 pub returns : goal.returns
-returns c = rw (row_short c.args.line c.if-line.false) (RowAsks.read c.read.ensures)
+returns c = rw c.in-Some.ensures (RowAsks.read c.read.ensures)

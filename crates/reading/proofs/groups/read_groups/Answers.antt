@@ -5,16 +5,16 @@ use Rattle.sections.proofs.Refused.{passed_on}
 use Rattle.reading.proofs.Carried.{groups_none, groups_more, groups_dropped, groups_done}
 use Rattle.reading.proofs.groups.read_groups.Goals as goal
 
-pub loop-i-init : goal.loop-i-init
-loop-i-init c = rw (sub-zero c.args.n) (groups_none c.args.m c.args.n c.args.form.now)
+pub loop-init : goal.loop-init
+loop-init c = rw (sub-zero c.args.n) (groups_none c.args.n c.args.form.now)
 
 pub returns-in_err-profile : goal.returns-in_err-profile
-returns-in_err-profile c = passed_on _ _ c.from_residual.result _ c.from_residual.ensures.1 (groups_dropped c.loop-i.invariant (omega arith) c.in_err-profile.ensures)
+returns-in_err-profile c = passed_on _ _ c.from_residual.result _ c.from_residual.ensures.1 (groups_dropped c.loop.invariant (omega arith) c.in_err-profile.ensures)
 
-pub loop-i-preserved : goal.loop-i-preserved
-loop-i-preserved c =
-    let left : c.args.n - (c.loop-i.i + 1) ≡ c.args.n - c.loop-i.i - 1 = omega arith in
-    rw left (groups_more c.loop-i.invariant (omega arith) c.in_ok-profile.ensures)
+pub loop-preserved : goal.loop-preserved
+loop-preserved c =
+    let left : c.args.n - (c.loop.counter + 1) ≡ c.args.n - c.loop.counter - 1 = omega arith in
+    rw left (groups_more c.loop.invariant (omega arith) c.in_ok-profile.ensures)
 
 pub returns : goal.returns
-returns c = groups_done c.loop-i.invariant (omega arith)
+returns c = groups_done c.loop.invariant (omega arith)

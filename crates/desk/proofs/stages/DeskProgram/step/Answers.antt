@@ -8,8 +8,8 @@ use Rattle.desk.proofs.stages.DeskProgram.step.Goals.{in-Make, in-Unreadable}
 pub returns-in-Opening : goal.returns-in-Opening
 returns-in-Opening c = step_opening c.in-Opening.is c.first_line.ensures
 
-pub order_of-requires-clause-m_bound : goal.order_of-requires-clause-m_bound
-order_of-requires-clause-m_bound c = omega (arith, sheet_marks (sheet_of_record c.in-Going.is c.requires.runs).1)
+pub order_of-requires : goal.order_of-requires
+order_of-requires c = omega (arith, sheet_marks (sheet_of_record c.in-Going.is c.requires.runs).1)
 
 pub returns-in-End : goal.returns-in-End
 returns-in-End c = step_going c.in-Going.is (λ r of. later_ended of c.order_of.ensures c.in-End.is (c.result-wrote.ensures r of))

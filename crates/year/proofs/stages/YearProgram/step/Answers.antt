@@ -13,8 +13,8 @@ returns-in-Naming c = step_naming c.in-Naming.is c.year_line.ensures
 pub returns-in-Opening : goal.returns-in-Opening
 returns-in-Opening c = step_opening c.in-Opening.is c.marks_line.ensures
 
-pub slip_of-requires-clause-m_bound : goal.slip_of-requires-clause-m_bound
-slip_of-requires-clause-m_bound c = omega (arith, marks_few (goes_on c.in-Going.is c.requires.runs).2)
+pub slip_of-requires : goal.slip_of-requires
+slip_of-requires c = omega (arith, marks_few (goes_on c.in-Going.is c.requires.runs).2)
 
 pub returns-in-Plain-End : goal.returns-in-Plain-End
 returns-in-Plain-End c =

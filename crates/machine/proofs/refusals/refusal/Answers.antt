@@ -1,7 +1,0 @@
--- The pair of `refused`.
-use Rattle.machine.specs.Machine.{refusal}
-use Rattle.machine.proofs.refusals.refusal.Goals as goal
-
-pub returns : goal.returns
-unfolding refusal
-returns c = c.put_pair.ensures

@@ -1,0 +1,71 @@
+// `refused K A`, laid in a lent area.
+ghost use Rattle.std.specs.Prelude.{◌++◌, ◌+◌, ◌≤◌, length};
+ghost use Rattle.ground.specs.Areas.{Wrote};
+ghost use Rattle.ground.specs.Texts.{ascii};
+ghost use Rattle.print.specs.Texts.{decimal};
+ghost use Rattle.machine.specs.Machine.{refusal as refusal_text, spoken as spoken_text};
+ghost use Rattle.print.specs.Pages.{Puts, HasRoom};
+ghost use Rattle.machine.specs.AtHand.{refusal_room};
+
+use print::Page;
+
+// A word, a number, what stands between, a number and a newline.
+pub fn put_pair(out: &mut [u8], at: usize, word: &[u8], x: u64, between: &[u8], y: u64) -> usize
+    requires { at + length word.now + length between.now + 41 ≤ length out.old }
+    ensures { Wrote out.old at (word.now ++ decimal x ++ between.now ++ decimal y ++ ascii "\n") result out.new }
+{
+    let a = ground::put(out, at, word);
+    let b = print::put_number(out, a, x);
+    let c = ground::put(out, b, between);
+    let d = print::put_number(out, c, y);
+    ground::put_byte(out, d, b'\n')
+}
+
+// `refused K A`.
+pub fn refusal(out: &mut [u8], number: u64, answer: u64) -> usize
+    requires { refusal_room ≤ length out.old }
+    ensures { Wrote out.old 0 (refusal_text number answer) result out.new }
+{
+    put_pair(out, 0, b"refused ", number, b" ", answer)
+}
+
+// The same, where there is something to refuse.
+pub fn spoken(out: &mut [u8], number: u64, answer: u64) -> usize
+    requires { refusal_room ≤ length out.old }
+    ensures { Wrote out.old 0 (spoken_text number answer) result out.new }
+{
+    if answer == 0 {
+        return 0;
+    }
+    refusal(out, number, answer)
+}
+
+// A word, a number, what stands between, a number and a newline, on a page.
+pub fn put_both(page: &mut Page, word: &[u8], x: u64, between: &[u8], y: u64)
+    requires { HasRoom page.old (length word.now + length between.now + 41) }
+    ensures { Puts page.old page.new (word.now ++ decimal x ++ between.now ++ decimal y ++ ascii "\n") }
+{
+    page.put(word);
+    page.put_number(x);
+    page.put(between);
+    page.put_number(y);
+    page.put_byte(b'\n');
+}
+
+// `refused K A`, on a page.
+pub fn put_refusal(page: &mut Page, number: u64, answer: u64)
+    requires { HasRoom page.old refusal_room }
+    ensures { Puts page.old page.new (refusal_text number answer) }
+{
+    put_both(page, b"refused ", number, b" ", answer);
+}
+
+// The same, where there is something to refuse.
+pub fn put_spoken(page: &mut Page, number: u64, answer: u64)
+    requires { HasRoom page.old refusal_room }
+    ensures { Puts page.old page.new (spoken_text number answer) }
+{
+    if answer != 0 {
+        put_refusal(page, number, answer);
+    }
+}
