@@ -61,7 +61,7 @@ pub fn write_sound(sheet: &Sheet, out: &mut [u8]) -> Result<u64, Refusal>
     if out.len() < text_size(m, k) {
         return Err(Refusal::Room);
     }
-    let mut page = Page { area: out, len: 0 };
+    let mut page = Page::new(out);
     put_text(&mut page, m, &area[..k]);
     Ok(page.len as u64)
 }
