@@ -12,11 +12,6 @@ returns-then-out-a c =
     let v = lists_told c.args.sheet.now c.requires c.power2-n.ensures.0 c.owns.ensures c.owns-eithers.ensures c.owns-times.ensures c.neither-ins.ensures in
     short c.requires (omega (arith, length_told v))
 
-pub put_byte-requires : goal.put_byte-requires
-put_byte-requires c =
-    let v = lists_told c.args.sheet.now c.requires c.power2-n.ensures.0 c.owns.ensures c.owns-eithers.ensures c.owns-times.ensures c.neither-ins.ensures in
-    omega (arith, length_told v, pieces_length v, ap length c.new-page.ensures.area)
-
 pub put_section-requires-clause-room : goal.put_section-requires-clause-room
 put_section-requires-clause-room c =
     let v = lists_told c.args.sheet.now c.requires c.power2-n.ensures.0 c.owns.ensures c.owns-eithers.ensures c.owns-times.ensures c.neither-ins.ensures in
