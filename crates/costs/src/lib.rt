@@ -57,6 +57,7 @@ fn certify(
     requires { (m ≤ set_marks) × Sets m sets.now }
     ensures { Certified m known.new.costs (has need) (has room) known.new.plus known.new.minus }
 {
+    // the number picks from two tables, of which only the front counts; a zip of both fronts is no plainer
     for b in 0..boxes::power3(m) {
         let set = sets[b];
         if set & room == set {

@@ -50,7 +50,8 @@ impl Line {
     pub fn text(&self) -> Option<&[u8]>
         ensures { MatchOption result (row_of (told self.now) ≡ spoiled) (λ text. row_of (told self.now) ≡ whole text.now) }
     {
-        if self.long {
+        let lost = self.long;
+        if lost {
             return None;
         }
         Some(&self.text[..self.len])
@@ -75,7 +76,8 @@ impl Line {
         ensures { cut (told self.new) result.0 result.1 ≡ cut_of (told self.old) piece.now }
     {
         for (i, b) in piece.iter().enumerate() {
-            if *b == b'\n' {
+            let newline = *b == b'\n';
+            if newline {
                 return (i + 1, true);
             }
             self.push(*b);

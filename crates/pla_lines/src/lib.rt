@@ -37,7 +37,8 @@ pub fn size(text: &[u8]) -> usize
     newline(text).unwrap_or(text.len())
 }
 
-// What the line says, in a text of m inputs; None where it says nothing.
+// What the line says, in a text of m inputs; None where it says nothing. The bound on m stands wherever m is handed on: a type for it would only be opened
+// again by `read_cube`, which alone uses it.
 fn said(text: &[u8], m: usize) -> Option<Heard>
     requires { m ≤ most_marks }
     ensures { Hears m (words_in text.now) (unwrap_or result Unreadable) }

@@ -1,5 +1,5 @@
 // What the lines of a PLA text have said so far, and what one more line makes of it.
-ghost use Rattle.std.specs.Prelude.{◌≡◌, ◌+◌, ◌<◌, ◌≤◌, ◌^◌, false, IfOk};
+ghost use Rattle.std.specs.Prelude.{◌≡◌, ◌+◌, ◌<◌, ◌≤◌, ◌^◌, false, IfOk, OnErr};
 ghost use Rattle.sheet.specs.Limits.{most_marks};
 ghost use Rattle.stored.specs.Told.{read_as};
 ghost use Rattle.pla.specs.Reading.{nothing_said};
@@ -44,7 +44,8 @@ impl Said {
 
     // `.i`, at an offset.
     fn take_inputs(&mut self, at: usize, n: u64) -> Result<(), Refusal>
-        ensures { MakesOf self.old at inputs n (next_of result self.new) }
+        ensures leads { MakesOf self.old at inputs n (next_of result self.new) }
+        ensures kept { OnErr result (self.new ≡ self.old) }
     {
         if self.inputs != 0 {
             return Err(Refusal::Unreadable(at));
@@ -58,7 +59,8 @@ impl Said {
 
     // `.o 1`
     fn take_output(&mut self, at: usize) -> Result<(), Refusal>
-        ensures { Makes self.old at output (next_of result self.new) }
+        ensures leads { Makes self.old at output (next_of result self.new) }
+        ensures kept { OnErr result (self.new ≡ self.old) }
     {
         if self.inputs == 0 {
             return Err(Refusal::Unreadable(at));
@@ -72,7 +74,8 @@ impl Said {
 
     // `.p`
     fn take_count(&mut self, at: usize, number: u64) -> Result<(), Refusal>
-        ensures { MakesOf self.old at count number (next_of result self.new) }
+        ensures leads { MakesOf self.old at count number (next_of result self.new) }
+        ensures kept { OnErr result (self.new ≡ self.old) }
     {
         if self.count.is_some() {
             return Err(Refusal::Unreadable(at));
@@ -85,7 +88,8 @@ impl Said {
     fn take_cube(&mut self, at: usize, b: usize) -> Result<(), Refusal>
         requires box_of_inputs { (self.old.inputs ≤ most_marks) × (b < 3 ^ self.old.inputs) }
         requires few { self.old.cubes + 1 < 2 ^ 64 }
-        ensures { Makes self.old at (cube b) (next_of result self.new) }
+        ensures leads { Makes self.old at (cube b) (next_of result self.new) }
+        ensures kept { OnErr result (self.new ≡ self.old) }
     {
         if !self.output {
             return Err(Refusal::Unreadable(at));
@@ -99,7 +103,8 @@ impl Said {
     pub fn judge(&mut self, at: usize, heard: Heard) -> Result<bool, Refusal>
         requires { Hearable self.old heard }
         ensures leads { Judged self.old at heard (judged_of result self.new) }
-        ensures kept { IfOk result (λ goes_on. goes_on ≡ false → self.new ≡ self.old) }
+        ensures kept { OnErr result (self.new ≡ self.old) }
+        ensures ended { IfOk result (λ goes_on. goes_on ≡ false → self.new ≡ self.old) }
     {
         match heard {
             Heard::Blank => {}

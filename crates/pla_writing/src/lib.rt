@@ -49,7 +49,7 @@ fn text_size(m: usize, k: usize) -> usize
     17 + digits + k * (m + 3)
 }
 
-// Writes the list of a sheet whose class table is sound.
+// Writes the list of a sheet whose class table is sound: `lent` knows that of a sheet that was just read, and does not test it again.
 pub fn write_sound(sheet: &Sheet, out: &mut [u8]) -> Result<u64, Refusal>
     requires { ClassReady most_marks sheet.now }
     ensures { WritesPla most_marks sheet.now out.old (value_of result) out.new }
@@ -61,12 +61,13 @@ pub fn write_sound(sheet: &Sheet, out: &mut [u8]) -> Result<u64, Refusal>
     if out.len() < text_size(m, k) {
         return Err(Refusal::Room);
     }
-    let mut page = Page { area: out, len: 0 };
+    let mut page = Page::new(out);
     put_text(&mut page, m, &area[..k]);
     Ok(page.len as u64)
 }
 
-// Writes the PLA text of a sheet's class in front of the lent area: its length.
+// Writes the PLA text of a sheet's class in front of the lent area: its length. A test and a call, as in `listing` and `writing`: one function for them
+// would take the call as a closure over the area, and be longer than each.
 pub fn write(sheet: &Sheet, out: &mut [u8]) -> Result<u64, Refusal>
     ensures { WritesPla most_marks sheet.now out.old (value_of result) out.new }
 {

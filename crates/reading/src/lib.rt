@@ -34,7 +34,7 @@ fn profile_part(
 ) -> Result<Profile, Refusal>
     ensures { EndRead layout eithers.now form.old form.new result }
 {
-    // Here too.
+    // One thing to read for each layout, as above.
     match layout {
         Layout::First => Ok(Profile::None),
         Layout::Today => groups::read(form, eithers),

@@ -5,7 +5,8 @@ ghost use Rattle.stored.specs.Fields.{number_in};
 
 use refusals::Refusal;
 
-// What is left of a form of so many marks and so many bytes. The size is that of all the form: places count from its beginning, which `rest` does not tell.
+// What is left of a stored form of so many marks and so many bytes; the forms of `times` are others. The size is that of all the form: places count
+// from its beginning, which `rest` does not tell.
 #[derive(Clone, Copy)]
 pub struct Form<'a> {
     pub marks: usize,

@@ -103,6 +103,7 @@ impl Sheet {
     {}
 
     // The sheet worked out afresh from what each combination adds to the outside counts and to the either counts, and the seconds that it holds.
+    // Three lists, as an opening and the sections of a form give them; a struct of them would be made for this call alone.
     pub fn afresh(m: usize, profile: Profile, outs: &[u32], eithers: &[u32], times: &[u32]) -> Sheet
         requires { (m ≤ most_marks) × Addable m outs.now × Addable m eithers.now × Addable m times.now }
         ensures { result ≡ sheet_from entries m profile (entry outs.now) (entry eithers.now) (entry times.now) }
@@ -119,7 +120,7 @@ impl Sheet {
         }
     }
 
-    // The sheet of an opened class of m marks.
+    // The sheet of an opened class of m marks: `opened_under` without a profile. docs/CONTRACTS.md promises it by itself.
     pub fn opened(m: usize) -> Sheet
         requires { m ≤ most_marks }
         ensures { result ≡ sheet_of entries (opened m) }
@@ -137,7 +138,8 @@ impl Sheet {
         Ok(Sheet::opened(marks))
     }
 
-    // The sheet of a class of m marks that is opened under a profile.
+    // The sheet of a class of m marks that is opened under a profile. The two are fields of the sheet that is made; a struct of them would be taken apart
+    // again.
     fn opened_under(m: usize, profile: Profile) -> Sheet
         requires { m ≤ most_marks }
         ensures { result ≡ sheet_of entries (opened_under m profile) }
@@ -205,7 +207,8 @@ impl Sheet {
             - u64::from(self.either[all])
     }
 
-    // How many combinations are in the class.
+    // How many combinations are in the class. `total`, `list` and `check` too test and then tell, each by its own test or promise; one function for all
+    // would take both as closures.
     pub fn class_size(&self) -> Result<u64, Refusal>
         ensures { ClassSize most_marks self.now (value_of result) }
     {

@@ -23,9 +23,6 @@ sixty a b h k =
     let f : b ≡ 48 + x % 10 = omega arith in
     record { small = omega arith; text = cc }
 
-pub two_paired : {t : List ℕ} {x k : ℕ} → Paired t (Front x k) → (x ≤ 59) × (k ≡ 2) × (2 ≤ length t)
-two_paired (two l h k e) = (omega arith, refl, omega arith)
-
 -- whatever may stand behind two digits
 
 module _ (K : ℕ → List ℕ → ℕ → Form → Type 0) where

@@ -220,9 +220,6 @@ module _ (b : List ℕ) (n : ℕ) (u : Numeral b n) (h : n ≤ 599) where
 pub led_stop : {t : List ℕ} {p : ℕ} → Led t (Stop p) → ReadsAs ByParts t (Fault p)
 led_stop (stop k) = k
 
-pub led_small : {t : List ℕ} {n k : ℕ} → Led t (Front n k) → (n ≤ 599) × (k ≤ length t)
-led_small (colon b z e u h q) = (h, omega (arith, q, ap length e, length-append (b ++ 58 ∷ []) z, length-append b (58 ∷ [])))
-
 -- the part behind the colon is handed on
 pub led_on : (t : List ℕ) (n k : ℕ) {r : Time} → Led t (Front n k) → ReadsAs (Two (After n)) (drop k t) r → ReadsAs ByParts t (placed_on k r)
 led_on t n k {r} (colon b z e u h q) x =

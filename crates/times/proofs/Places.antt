@@ -1,17 +1,16 @@
 -- Laws of places, for any readable texts L: no two answers are right; a text that ends or goes wrong behind a common beginning; a part that is handed on.
-use Prim.Native.Nat.{ℕ, ◌+◌, ◌-◌, ◌≤◌}
+use Prim.Native.Nat.{ℕ, ◌+◌, ◌≤◌}
 use mathlib.Core.Path.{◌≡◌, refl, sym, ap, ◌∙◌, subst}
 use mathlib.Core.List.{List, [], ◌∷◌, ◌++◌, append_assoc, append-nil}
 use mathlib.Core.Logic.{◌⊎◌, inl, inr, ⊎_elim}
 use native.Mathlib.Nat.{add-zero}
 use native.Mathlib.Omega.{arith}
-use lib.ListN.{length, take, drop, length-append, length-drop}
-use lib.Seq.{take_all}
+use lib.ListN.{length, length-append}
 use Rattle.times.specs.declared.Form.{Form}
 use Rattle.times.specs.declared.Time.{Time}
 use Rattle.times.specs.declared.Time.TheVariants.{Value, Fault}
 use Rattle.times.specs.Places.{Common, Place, ReadsAs, value, fault}
-use Rattle.times.specs.Parts.{place_of, placed_on}
+use Rattle.times.specs.Parts.{placed_on}
 
 module _ (L : List ℕ → ℕ → Form → Type 0) where
   -- some readable text begins so
@@ -27,15 +26,6 @@ module _ (L : List ℕ → ℕ → Form → Type 0) where
   settled f (value a) (fault n p) = absurd (n _ _ a)
   settled f (fault n p) (value a) = absurd (n _ _ a)
   settled f (fault n p) (fault m q) = ap Fault (same_place p q)
-
-  -- the place lies in the text
-  pub place_le : {t : List ℕ} {r : Time} → ReadsAs L t r → place_of r ≤ length t
-  place_le (value k) = omega arith
-  place_le (fault n x) = omega (arith, x.size, ap length x.common.of_text.1, length-append x.best x.common.of_text.0)
-
-  -- a part that is lent to the end of the text
-  pub lent_part : (t : List ℕ) (k : ℕ) {r : Time} → ReadsAs L (take (length t - k) (drop k t)) r → ReadsAs L (drop k t) r
-  lent_part t k {r} x = subst (λ (u : List ℕ). ReadsAs L u r) (take_all (length t - k) (drop k t) (omega (arith, length-drop k t))) x
 
   -- no text has more than nothing in common
   nothing_common : (t : List ℕ) → Open [] → ((c : ℕ) (a : List ℕ) → Common L t (c ∷ a) → ⊥) → Place L t 0

@@ -57,7 +57,8 @@ fn digit(part: &[u8], top: u8) -> Result<(u64, &[u8]), &[u8]>
     }
 }
 
-// The number that i digits, which write n, and the digit c make; None where c may not follow them.
+// The number that i digits, which write n, and the digit c make; None where c may not follow them. The bound on n stands wherever n is handed on: a type for
+// it would be built anew at each digit and opened for each sum.
 fn grown(i: usize, n: u64, c: u8) -> Option<u64>
     requires { n ≤ 599 }
     ensures follows { IfSome result (λ more. Follows i n c × (more ≡ n * 10 + (c - 48))) }
@@ -155,7 +156,7 @@ pub fn read(text: &[u8]) -> Time
     }
 }
 
-// The number of a form: 0 for none, 1 for minutes, 2 for hours.
+// The number of a form, as `vault_read_time` hands it to C: 0 for none, 1 for minutes, 2 for hours.
 fn form_number(f: Option<Form>) -> u64
     ensures { result ≡ form_number f }
 {

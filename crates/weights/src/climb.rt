@@ -9,6 +9,7 @@ impl Simplex {
     // The row that goes out, the first to come down to 0 as x loses more and more of d.
     fn leaving(&self, d: &[f64; 32]) -> Option<Row> {
         let mut first = First::new();
+        // the number is what is looked for, and picks from two tables; a zip with numbers is no plainer
         for number in 0..32 {
             let size = d[number];
             if size > 0.000000001 {

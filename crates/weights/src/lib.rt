@@ -42,6 +42,7 @@ fn parts(w: f64, more: f64) -> u32 {
 fn rounded(y: &[f64; 32], scale: f64) -> Weights {
     let mut plus = [0u32; 32];
     let mut minus = [0u32; 32];
+    // the number serves three tables at once, and only one of two is written; a zip of all is no plainer
     for c in 0..32 {
         let w = y[c] * scale;
         if w > 0.0 {

@@ -29,6 +29,7 @@ pub struct Room<'a> {
 fn one_mark_more(lows: &mut [usize; 243], p: usize)
     requires { p ≤ 81 }
 {
+    // the part below is read while both parts above it are written; the table cut in three is no plainer
     for b in 0..p {
         let low = lows[b];
         lows[p + b] = low;
@@ -52,8 +53,8 @@ pub fn inside(sets: &[u32; 243], room: u32, area: &mut [InRoom; 243]) -> usize
     ensures { result ≤ 243 }
 {
     let mut n: usize = 0;
-    for number in 0..243 {
-        if sets[number] & room == sets[number] {
+    for (number, set) in sets.iter().enumerate() {
+        if *set & room == *set {
             area[n] = InRoom { number };
             n += 1;
         }

@@ -7,7 +7,7 @@ pub struct Simplex {
     // The inverse of the basis by columns: a set's column is the sum of those of its combinations, and an exchange takes a multiple of one
     // column from each, so that both run along the memory.
     pub inverse: [[f64; 32]; 32],
-    // how often each set of the basis is taken
+    // how often each set of the basis is taken: by rows, where y goes by combinations, so the two are no pairs
     pub x: [f64; 32],
     // what each combination weighs
     pub y: [f64; 32],
@@ -81,6 +81,7 @@ impl Simplex {
     // every tie between rows.
     pub fn begin(&mut self, need: u32) {
         let mut one = 1.0;
+        // each number is a row, a column and a bit at once; three iterators beside one another are no plainer
         for c in 0..32 {
             self.inverse[c][c] = 1.0;
             self.x[c] = one;

@@ -49,6 +49,7 @@ fn nearest(room: &Room<'_>, y: &[f64; 32], u: &[f64; 32]) -> Option<Entering> {
         };
         offer(&mut near, entering, 0.0 - w[b.number]);
     }
+    // the number is a bit, and picks from two tables; a zip with numbers is no plainer
     for c in 0..32 {
         if room.spare >> c & 1 == 1 {
             let entering = Entering {
@@ -93,9 +94,9 @@ impl Simplex {
     fn lowest(&self) -> Option<Row> {
         let mut row = None;
         let mut least = -0.0000001;
-        for number in 0..32 {
-            if self.x[number] < least {
-                least = self.x[number];
+        for (number, x) in self.x.iter().enumerate() {
+            if *x < least {
+                least = *x;
                 row = Some(Row { number });
             }
         }

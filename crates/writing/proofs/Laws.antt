@@ -18,9 +18,11 @@ use Rattle.classes.specs.declared.Standing.TheVariants as standing
 use Rattle.print.specs.declared.page.Page.{Page}
 use Rattle.print.specs.Pages.{Puts, HasRoom}
 use Rattle.print.proofs.Pages.{puts_nothing, puts_then, puts_text, wrote_of}
+use Rattle.sheet.specs.Limits.{most_marks}
 use Rattle.sheet.specs.Sound.{Ready, size_of, record_of}
 use Rattle.sheet.specs.Told.{Value}
 use Rattle.sheet.specs.declared.Sheet.{Sheet}
+use Rattle.sheet.proofs.Limits.{marks_most}
 use Rattle.sheet.proofs.Opening.{combinations_fit}
 use Rattle.stored.specs.Sections.{bytes_behind, stands_in}
 use Rattle.stored.specs.Parts.{Neither}
@@ -88,11 +90,11 @@ module _ {p : ℕ → Bool} {f : ℕ → List ℕ} {n : ℕ} {from to : Page} {c
     listing_more w = record { room = v.room; put = puts_text (sym (listed_step p f c b x takes writes)) (puts_then v.put w) }
 
 -- an entry
-pub entry_none : (k c x : ℕ) → x ≡ 0 → entry_text k c x ≡ []
-entry_none k c x e = ap (λ (b : Bool). cond b (c ∷ bytes k x) []) (le-ltb 0 x (omega arith))
+pub entry_none : (s : Section) (c x : ℕ) → x ≡ 0 → entry_text s c x ≡ []
+entry_none s c x e = ap (λ (b : Bool). cond b (c ∷ bytes (bytes_behind s) x) []) (le-ltb 0 x (omega arith))
 
-pub entry_some : (k c x : ℕ) → (x ≡ 0 → ⊥) → entry_text k c x ≡ c ∷ bytes k x
-entry_some k c x n = ap (λ (b : Bool). cond b (c ∷ bytes k x) []) (lt-ltb 0 x (omega arith))
+pub entry_some : (s : Section) (c x : ℕ) → (x ≡ 0 → ⊥) → entry_text s c x ≡ c ∷ bytes (bytes_behind s) x
+entry_some s c x n = ap (λ (b : Bool). cond b (c ∷ bytes (bytes_behind s) x) []) (lt-ltb 0 x (omega arith))
 
 -- what is counted in a list of what its combinations have
 count_below : (has : List ℕ) (c : ℕ) → c ≤ length has → count_by (λ x. ltb 0 x) (take c has) ≡ count (λ j. ltb 0 (entry has j)) c
@@ -182,9 +184,10 @@ pub record Lists (u : Sheet) (ins eithers times : List ℕ) : Type 0 where
   pub either : Told u Either eithers
   pub held : Told u Held times
 
-pub lists_told : {most : ℕ} (u : Sheet) → Ready most u → u.marks ≤ 5 → (n : ℕ) → n ≡ 2 ^ u.marks → {outs eithers ins times : List ℕ} → Owns u.marks u.outside outs
+pub lists_told : (u : Sheet) → Ready most_marks u → {n : ℕ} → n ≡ 2 ^ u.marks → {outs eithers ins times : List ℕ} → Owns u.marks u.outside outs
     → Owns u.marks u.either eithers → Owns u.marks u.held times → Neither outs eithers ins → Lists u (take n ins) (take n eithers) (take n times)
-lists_told u ready few n en out either held third =
+lists_told u ready {n} en out either held third =
+    let few : u.marks ≤ 5 = marks_most most_marks u.marks ready.marks in
     record { class = class_told u ready few n en out either third; either = either_told u ready few n en out either; held = held_told u ready few n en held }
 
 -- the form from its five pieces, and its length from the three counts and the profile

@@ -25,29 +25,27 @@ fn put_bytes(page: &mut Page<'_>, k: usize, n: u64)
     page.put(&n.to_le_bytes()[..k]);
 }
 
-// The combination c, with the number x that it has in the section in k bytes behind it, if that is not 0.
-fn put_entry(page: &mut Page<'_>, c: usize, x: u32, k: usize)
-    requires few { k ≤ 8 }
+// The combination c, with the number x that it has in the section behind it, if that is not 0.
+fn put_entry(page: &mut Page<'_>, c: usize, x: u32, section: Section)
     requires c_bound { c < 256 }
-    requires room { HasRoom page.old (length (entry_text k c x)) }
-    ensures { Puts page.old page.new (entry_text k c x) }
+    requires room { HasRoom page.old (length (entry_text section c x)) }
+    ensures { Puts page.old page.new (entry_text section c x) }
 {
     if x == 0 {
         return;
     }
     page.put_byte(c as u8);
-    put_bytes(page, k, u64::from(x));
+    put_bytes(page, section.bytes_behind(), u64::from(x));
 }
 
 // The combinations of a section, `has` telling what each has in it.
-fn put_list(page: &mut Page<'_>, has: &[u32], k: usize)
-    requires few { k ≤ 8 }
+fn put_list(page: &mut Page<'_>, has: &[u32], section: Section)
     requires has_bound { length has.now ≤ 32 }
-    requires room { HasRoom page.old (length (list_in k has.now)) }
-    ensures { Puts page.old page.new (list_in k has.now) }
+    requires room { HasRoom page.old (length (list_in section has.now)) }
+    ensures { Puts page.old page.new (list_in section has.now) }
 {
     for (c, x) in has.iter().enumerate() {
-        put_entry(page, c, *x, k);
+        put_entry(page, c, *x, section);
     }
 }
 
@@ -66,7 +64,7 @@ fn put_section(page: &mut Page<'_>, has: &[u32], section: Section, n: usize)
     ensures { Puts page.old page.new (section_in section has.now) }
 {
     put_bytes(page, 2, n as u64);
-    put_list(page, has, section.bytes_behind());
+    put_list(page, has, section);
 }
 
 // How many bytes a profile has. A table would need the case as a number, so it is no plainer.
@@ -139,7 +137,8 @@ pub fn write_sound(sheet: &Sheet, out: &mut [u8]) -> Result<u64, Refusal>
     Ok(page.len as u64)
 }
 
-// Writes a sheet's form in front of the lent area, and answers its length.
+// Writes a sheet's form in front of the lent area, and answers its length. `listing` and `checking` have the same test in front of other calls: one
+// function for it would take the call as a closure, and be longer than the test.
 pub fn write(sheet: &Sheet, out: &mut [u8]) -> Result<u64, Refusal>
     ensures { Writes most_marks sheet.now out.old (value_of result) out.new }
 {

@@ -37,7 +37,7 @@ returns-in_err-judge c =
 pub comes_to-requires : goal.comes_to-requires
 comes_to-requires c =
     let i = c.loop-at.invariant in
-    rw (c.in_ok-judge.ensures.kept c.if-not-branch.true) (marks_few i, omega (arith, cubes_few i))
+    rw (c.in_ok-judge.ensures.ended c.if-not-branch.true) (marks_few i, omega (arith, cubes_few i))
 
 pub returns-then-not-branch : goal.returns-then-not-branch
 returns-then-not-branch c =
@@ -45,7 +45,7 @@ returns-then-not-branch c =
     let t = c.args.text.now in
     answered _ (line_ends t l.said l.at _ _ l.invariant (omega arith) (heard (goal.at.returns-then-not-branch c).After-judge)
     (subst (λ b. Judged l.said l.at c.read-heard.result (judged_of (Ok b) c.judge.new.self)) c.if-not-branch.true c.in_ok-judge.ensures.leads) refl)
-    (c.comes_to.ensures l.invariant.so_far (rw (c.in_ok-judge.ensures.kept c.if-not-branch.true) l.invariant.kept))
+    (c.comes_to.ensures l.invariant.so_far (rw (c.in_ok-judge.ensures.ended c.if-not-branch.true) l.invariant.kept))
 
 pub overflow_add-at : goal.overflow_add-at
 overflow_add-at c =

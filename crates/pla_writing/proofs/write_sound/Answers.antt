@@ -1,5 +1,5 @@
 -- The list is found in an area of its own; then 5 by the length of its text, or the text.
-use Rattle.std.proofs.Common.{arith, rules, refl, sym}
+use Rattle.std.proofs.Common.{arith, rules, sym, ap, length}
 use Rattle.std.proofs.lemmas.List.{length-take-le}
 use Rattle.pla_writing.proofs.Answers.{few_marks, few_boxes, boxes_inside, text_size, text_short, text_written, no_refusal}
 use Rattle.pla_writing.proofs.write_sound.Goals as goal
@@ -22,9 +22,9 @@ pub slice_bounds-put_text-end : goal.slice_bounds-put_text-end
 slice_bounds-put_text-end c = sym (length-take-le _ _ (boxes_inside c.requires c.area-area.ensures c.in_ok-lines.ensures))
 
 pub put_text-requires : goal.put_text-requires
-put_text-requires c = omega (arith, text_size c.requires c.area-area.ensures c.in_ok-lines.ensures c.text_size.ensures)
+put_text-requires c = omega (arith, c.new-page.ensures.empty, ap length c.new-page.ensures.area, text_size c.requires c.area-area.ensures c.in_ok-lines.ensures c.text_size.ensures)
 
 pub returns : goal.returns
 returns c =
-    text_written c.requires c.area-area.ensures c.in_ok-lines.ensures c.text_size.ensures (omega arith) refl refl c.put_text.ensures
-    (search (rules, c.put_text.ensures.same))
+    text_written c.requires c.area-area.ensures c.in_ok-lines.ensures c.text_size.ensures (omega arith) c.new-page.ensures.empty c.new-page.ensures.area c.put_text.ensures
+    (search (rules, c.put_text.ensures.same, c.new-page.ensures.same))

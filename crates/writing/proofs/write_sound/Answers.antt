@@ -9,27 +9,22 @@ use Rattle.writing.proofs.write_sound.Goals as goal
 
 pub returns-then-out-a : goal.returns-then-out-a
 returns-then-out-a c =
-    let v = lists_told c.args.sheet.now c.requires (marks_most most_marks c.args.sheet.now.marks c.requires.marks) c.power2-n.result c.power2-n.ensures.0 c.owns.ensures c.owns-eithers.ensures c.owns-times.ensures c.neither-ins.ensures in
+    let v = lists_told c.args.sheet.now c.requires c.power2-n.ensures.0 c.owns.ensures c.owns-eithers.ensures c.owns-times.ensures c.neither-ins.ensures in
     short c.requires (omega (arith, length_told v))
-
-pub put_byte-requires : goal.put_byte-requires
-put_byte-requires c =
-    let v = lists_told c.args.sheet.now c.requires (marks_most most_marks c.args.sheet.now.marks c.requires.marks) c.power2-n.result c.power2-n.ensures.0 c.owns.ensures c.owns-eithers.ensures c.owns-times.ensures c.neither-ins.ensures in
-    omega (arith, length_told v, pieces_length v, ap length c.new-page.ensures.area)
 
 pub put_section-requires-clause-room : goal.put_section-requires-clause-room
 put_section-requires-clause-room c =
-    let v = lists_told c.args.sheet.now c.requires (marks_most most_marks c.args.sheet.now.marks c.requires.marks) c.power2-n.result c.power2-n.ensures.0 c.owns.ensures c.owns-eithers.ensures c.owns-times.ensures c.neither-ins.ensures in
+    let v = lists_told c.args.sheet.now c.requires c.power2-n.ensures.0 c.owns.ensures c.owns-eithers.ensures c.owns-times.ensures c.neither-ins.ensures in
     omega (arith, length_told v, pieces_length v, ap length c.new-page.ensures.area, c.put_byte.ensures.len, c.put_byte.ensures.long)
 
 pub put_section-requires-2-clause-room : goal.put_section-requires-2-clause-room
 put_section-requires-2-clause-room c =
-    let v = lists_told c.args.sheet.now c.requires (marks_most most_marks c.args.sheet.now.marks c.requires.marks) c.power2-n.result c.power2-n.ensures.0 c.owns.ensures c.owns-eithers.ensures c.owns-times.ensures c.neither-ins.ensures in
+    let v = lists_told c.args.sheet.now c.requires c.power2-n.ensures.0 c.owns.ensures c.owns-eithers.ensures c.owns-times.ensures c.neither-ins.ensures in
     omega (arith, length_told v, pieces_length v, ap length c.new-page.ensures.area, c.put_byte.ensures.len, c.put_byte.ensures.long, c.put_section.ensures.len, c.put_section.ensures.long)
 
 pub put_section-requires-3-clause-room : goal.put_section-requires-3-clause-room
 put_section-requires-3-clause-room c =
-    let v = lists_told c.args.sheet.now c.requires (marks_most most_marks c.args.sheet.now.marks c.requires.marks) c.power2-n.result c.power2-n.ensures.0 c.owns.ensures c.owns-eithers.ensures c.owns-times.ensures c.neither-ins.ensures in
+    let v = lists_told c.args.sheet.now c.requires c.power2-n.ensures.0 c.owns.ensures c.owns-eithers.ensures c.owns-times.ensures c.neither-ins.ensures in
     omega (arith, length_told v, pieces_length v, ap length c.new-page.ensures.area, c.put_byte.ensures.len, c.put_byte.ensures.long, c.put_section.ensures.len, c.put_section.ensures.long, c.put_section-2.ensures.len, c.put_section-2.ensures.long)
 
 pub put_profile-requires-clause-groups_fit : goal.put_profile-requires-clause-groups_fit
@@ -38,12 +33,12 @@ put_profile-requires-clause-groups_fit c =
 
 pub put_profile-requires-clause-room : goal.put_profile-requires-clause-room
 put_profile-requires-clause-room c =
-    let v = lists_told c.args.sheet.now c.requires (marks_most most_marks c.args.sheet.now.marks c.requires.marks) c.power2-n.result c.power2-n.ensures.0 c.owns.ensures c.owns-eithers.ensures c.owns-times.ensures c.neither-ins.ensures in
+    let v = lists_told c.args.sheet.now c.requires c.power2-n.ensures.0 c.owns.ensures c.owns-eithers.ensures c.owns-times.ensures c.neither-ins.ensures in
     omega (arith, length_told v, pieces_length v, ap length c.new-page.ensures.area, c.put_byte.ensures.len, c.put_byte.ensures.long, c.put_section.ensures.len, c.put_section.ensures.long, c.put_section-2.ensures.len, c.put_section-2.ensures.long, c.put_section-3.ensures.len, c.put_section-3.ensures.long)
 
 pub returns : goal.returns
 returns c =
-    let v = lists_told c.args.sheet.now c.requires (marks_most most_marks c.args.sheet.now.marks c.requires.marks) c.power2-n.result c.power2-n.ensures.0 c.owns.ensures c.owns-eithers.ensures c.owns-times.ensures c.neither-ins.ensures in
+    let v = lists_told c.args.sheet.now c.requires c.power2-n.ensures.0 c.owns.ensures c.owns-eithers.ensures c.owns-times.ensures c.neither-ins.ensures in
     let w = pieces_written v c.requires c.new-page.ensures.empty (omega (arith, length_told v, ap length c.new-page.ensures.area)) c.put_byte.ensures c.put_section.ensures c.put_section-2.ensures c.put_section-3.ensures c.put_profile.ensures in
     written_in _ _ _ _ w c.new-page.ensures.area (search rules)
 

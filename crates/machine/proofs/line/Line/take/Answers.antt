@@ -6,8 +6,8 @@ use Rattle.machine.proofs.line.Line.take.Goals as goal
 pub loop-i-init : goal.loop-i-init
 loop-i-init c = cut_none _
 
-pub returns-then-b-eq10 : goal.returns-then-b-eq10
-returns-then-b-eq10 c = let l = c.loop-i in sym (l.invariant ∙ cut_newline (told l.self) _ l.i (omega arith) (omega arith))
+pub returns-then-newline : goal.returns-then-newline
+returns-then-newline c = let l = c.loop-i in sym (l.invariant ∙ cut_newline (told l.self) _ l.i (omega arith) (omega arith))
 
 pub loop-i-preserved : goal.loop-i-preserved
 loop-i-preserved c =
