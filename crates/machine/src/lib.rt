@@ -3,7 +3,6 @@
 
 mod line;
 mod said;
-mod taking;
 
 pub use line::Line;
 pub use said::{put_both, put_pair, put_refusal, put_spoken, refusal, spoken};
