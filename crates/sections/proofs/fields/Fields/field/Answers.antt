@@ -1,7 +1,7 @@
 -- A field is not complete, or its number is beyond the limits.
 use Rattle.std.proofs.Common.{◌≡◌, ◌^◌, ◌≤◌, ◌<◌, length, ⊎_elim, arith, rules}
 use Rattle.sections.specs.Places.{number_at, early, wrong}
-use Rattle.sections.proofs.fields.Form.field.Goals as goal
+use Rattle.sections.proofs.fields.Fields.field.Goals as goal
 
 pub returns-in_default-clause-read : goal.returns-in_default-clause-read
 returns-in_default-clause-read c = early c.in_default.ensures.cases

@@ -2,8 +2,8 @@
 use Rattle.std.proofs.Common.{◌∙◌, sym, drop, arith, rules}
 use Rattle.sheet.specs.Limits.{most_marks}
 use Rattle.sheet.proofs.Limits.{marks_most}
-use Rattle.sections.specs.Places.{empty, others}
-use Rattle.sections.proofs.fields.Form.open.Goals as goal
+use Rattle.sections.specs.Parts.{empty, others}
+use Rattle.sections.proofs.form.Form.open.Goals as goal
 
 pub returns-in_default : goal.returns-in_default
 returns-in_default c = empty (omega arith)
@@ -11,5 +11,5 @@ returns-in_default c = empty (omega arith)
 pub returns-then-not-marks_ok : goal.returns-then-not-marks_ok
 returns-then-not-marks_ok c = others c.from-marks.result (drop 1 c.args.bytes.now) (search rules) (sym c.marks_ok.ensures ∙ c.if-not-marks_ok.true)
 
-pub invariant_of-result-clause-few : goal.invariant_of-result-clause-few
-invariant_of-result-clause-few c = marks_most most_marks c.from-marks.result (sym c.marks_ok.ensures ∙ c.if-not-marks_ok.false)
+pub invariant_of-result : goal.invariant_of-result
+invariant_of-result c = record { few = marks_most most_marks c.from-marks.result (sym c.marks_ok.ensures ∙ c.if-not-marks_ok.false) }
