@@ -5,4 +5,4 @@ mod line;
 mod said;
 
 pub use line::Line;
-pub use said::{put_both, put_pair, put_refusal, put_spoken, refusal, spoken};
+pub use said::{put_both, put_pair, put_refusal, refusal, spoken};

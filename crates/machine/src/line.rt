@@ -65,7 +65,7 @@ impl Line {
         Some(&self.text[..self.len.min(Line::MOST)])
     }
 
-    // Nothing has come yet.
+    // Nothing has come yet. No `Option` tells this: of a spoiled line something has.
     pub fn is_none(&self) -> bool
         ensures { result ≡ is_none (row_of self.now) }
     {
