@@ -21,7 +21,7 @@ pub fn is_leap(year: usize) -> bool
     year % 4 == 0
 }
 
-// How many days a month of the year has.
+// How many days a month of the year has. The calendar has no plainer rule than this table.
 #[tactic(auto, unfolding(crate::specs::Gregorian::days_in))]
 pub fn days_in(year: usize, month: usize) -> usize
     ensures { result ≡ days_in year month }
@@ -43,7 +43,7 @@ impl Date {
         (1..=12).contains(&self.month) && (1..=days_in(self.year, self.month)).contains(&self.day)
     }
 
-    // Whether this date is earlier than the other.
+    // Whether this date is earlier than the other: the derived order, under the name of its contract (docs/CONTRACTS.md).
     #[tactic(auto, unfolding(crate::specs::Gregorian::earlier))]
     pub fn is_earlier(self, other: Date) -> bool
         ensures { result ≡ earlier self other }

@@ -14,8 +14,8 @@ use Rattle.listing.specs.Listing.{Listed}
 use Rattle.checking.specs.Faults.{Judged}
 use Rattle.checking.specs.Answers.{Checked, verdict_of}
 use Rattle.checking.specs.declared.Fault.{Fault}
-use Rattle.checking.specs.declared.Finding.{Finding}
-use Rattle.checking.specs.declared.Finding.TheVariants.{Fitting, Faulty}
+use Rattle.checking.specs.Finding.{Finding}
+use Rattle.checking.specs.Finding.Finding.{Fitting, Faulty}
 use Rattle.checking.specs.declared.Verdict.{Verdict}
 use Rattle.checking.proofs.Settled.{check_settled}
 use Rattle.checking.proofs.Some.{check_some}

@@ -38,8 +38,8 @@ use Rattle.times.specs.declared.Time.{Time}
 use Rattle.times.specs.declared.Reading.{Reading}
 use Rattle.times.specs.declared.Time.TheVariants.{Value as Read_value, Fault}
 use Rattle.checking.specs.Answers.{verdict_of}
-use Rattle.checking.specs.declared.Finding.{Finding}
-use Rattle.checking.specs.declared.Finding.TheVariants.{Spoiled, Fitting, Faulty}
+use Rattle.checking.specs.Finding.{Finding}
+use Rattle.checking.specs.Finding.Finding.{Spoiled, Fitting, Faulty}
 use Rattle.checking.specs.declared.Verdict.{Verdict}
 use Rattle.lent.specs.Entries.{no_reply, HoldsNoneBy, Put, ChangesBy, TellsAs, Tells, Judges, Lends, Compared, KeptAt, same}
 use Rattle.lent.specs.declared.Reply.{Reply}

@@ -12,7 +12,7 @@ use Rattle.lists.specs.Lists.{among, first_from}
 use Rattle.lists.proofs.Known.{below, alike, gives, first_is, known_list}
 use Rattle.lists.proofs.Model.{laying, trying, seeking, fewest}
 use Rattle.checking.specs.declared.Fault.TheVariants.{NoBox}
-use Rattle.checking.specs.declared.Finding.TheVariants.{Faulty}
+use Rattle.checking.specs.Finding.Finding.{Faulty}
 use Rattle.checking.proofs.Faults.{no_box_at}
 use Rattle.times.specs.declared.Time.TheVariants.{Value, Fault}
 use Rattle.demands.specs.Known.{Example, sheet, drawn, time, Holds, table, Shown}

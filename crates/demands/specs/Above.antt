@@ -11,7 +11,7 @@ use Rattle.changes.specs.declared.Call.{Call}
 use Rattle.listing.specs.Listing.{Listed}
 use Rattle.totals.specs.Totals.{Totalled}
 use Rattle.checking.specs.Answers.{Checked}
-use Rattle.checking.specs.declared.Finding.{Finding}
+use Rattle.checking.specs.Finding.{Finding}
 use Rattle.stored.specs.Answers.{Writes}
 use Rattle.pla.specs.Answers.{WritesPla}
 

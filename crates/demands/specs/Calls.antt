@@ -20,7 +20,7 @@ use Rattle.times.specs.Answers.{reading_of, Answered}
 use Rattle.times.specs.declared.Time.{Time}
 use Rattle.times.specs.declared.Reading.{Reading}
 use Rattle.checking.specs.Answers.{Checked, verdict_of}
-use Rattle.checking.specs.declared.Finding.{Finding}
+use Rattle.checking.specs.Finding.{Finding}
 use Rattle.checking.specs.declared.Verdict.{Verdict}
 use Rattle.lent.specs.Entries.{Put, ChangesBy, Changes, Tells, Judges, Lends, Compared, KeptAt, same}
 use Rattle.lent.specs.declared.Reply.{Reply}

@@ -10,8 +10,8 @@ use Rattle.listing.specs.Listing.{Listed}
 use Rattle.checking.specs.Faults.{FirstFault}
 use Rattle.checking.specs.Answers.{Checked, verdict_of}
 use Rattle.checking.specs.declared.Fault.{Fault}
-use Rattle.checking.specs.declared.Finding.{Finding}
-use Rattle.checking.specs.declared.Finding.TheVariants.{Fitting, Faulty}
+use Rattle.checking.specs.Finding.{Finding}
+use Rattle.checking.specs.Finding.Finding.{Fitting, Faulty}
 use Rattle.checking.specs.declared.Verdict.{Verdict}
 use Rattle.lent.specs.Entries.{Holds, Lends, Judges}
 use Rattle.lent.specs.declared.Reply.{Reply}

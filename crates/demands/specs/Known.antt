@@ -4,8 +4,8 @@ use Rattle.ground.specs.Texts.{ascii}
 use Rattle.lists.specs.Lists.{among, FirstShortest}
 use Rattle.checking.specs.Faults.{Judged}
 use Rattle.checking.specs.declared.Fault.TheVariants.{NoBox}
-use Rattle.checking.specs.declared.Finding.{Finding}
-use Rattle.checking.specs.declared.Finding.TheVariants.{Faulty}
+use Rattle.checking.specs.Finding.{Finding}
+use Rattle.checking.specs.Finding.Finding.{Faulty}
 use Rattle.times.specs.declared.Form.TheVariants.{Minutes}
 use Rattle.times.specs.declared.Time.{Time}
 use Rattle.times.specs.declared.Time.TheVariants.{Value, Fault}

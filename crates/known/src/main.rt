@@ -2,17 +2,9 @@
 // answers; the file `stdout` has what is to come. 000's first function is there with its own six lines beside ours.
 #![tactic(auto)]
 
-ghost use Rattle.std.specs.Prelude.{◌≡◌, length};
-
-use changes;
-use checking;
-use listing;
-use lists;
-use reading;
-use sheet::Sheet;
+use refusals::Refusal;
+use sheet::{Refused, Sheet};
 use std::io;
-use times;
-use writing;
 
 const ONE_TO_SIX: [u8; 6] = [1, 2, 3, 4, 5, 6];
 
@@ -28,229 +20,194 @@ const FUNCTION: [u8; 15] = [5, 6, 7, 10, 11, 12, 13, 18, 19, 22, 23, 26, 27, 28,
 
 const ITS_LINES: [u8; 6] = [64, 176, 194, 198, 86, 120];
 
-fn word(rt: &impl Print, text: &[u8]) -> io::Result<()> {
-    rt.write_all(text)
+// Why the run ends early: a call that must be done is refused, or nothing more can be printed.
+#[derive(Debug, Drop)]
+enum Failed {
+    Refused(Refusal),
+    Output(io::Error),
 }
 
-fn number(rt: &impl Print, n: u64) -> io::Result<()> {
-    print!(rt; " {n}")
+impl From<Refusal> for Failed {
+    fn from(refusal: Refusal) -> Failed {
+        Failed::Refused(refusal)
+    }
+}
+
+impl From<Refused> for Failed {
+    fn from(refused: Refused) -> Failed {
+        Failed::Refused(refused.refusal)
+    }
+}
+
+impl From<io::Error> for Failed {
+    fn from(e: io::Error) -> Failed {
+        Failed::Output(e)
+    }
 }
 
 fn print_numbers(rt: &impl Print, list: &[u8]) -> io::Result<()> {
-    for &b in list {
-        number(rt, ground::byte(b) as u64)?;
+    for b in list {
+        print!(rt; " {b}")?;
     }
     Ok(())
 }
 
 // The sheet of m marks with these combinations in its class.
-fn with_class(m: usize, class: &[u8]) -> Sheet {
-    let opened = Sheet::open(m);
-    let mut sheet = opened.sheet;
-    let mut i: usize = 0;
-    while i < class.len() {
-        let entered = changes::enter(sheet, ground::byte(class[i]));
-        let next = entered.sheet;
-        sheet = next;
-        i += 1;
+fn with_class(m: usize, class: &[u8]) -> Result<Sheet, Refusal> {
+    let mut sheet = Sheet::open(m)?;
+    for c in class {
+        changes::enter(&mut sheet, usize::from(*c))?;
     }
-    sheet
+    Ok(sheet)
 }
 
 // A list, and what the check finds of it.
-fn print_list(rt: &impl Print, sheet: Sheet, list: &[u8]) -> io::Result<()> {
+fn print_list(rt: &impl Print, sheet: &Sheet, list: &[u8]) -> io::Result<()> {
     print_numbers(rt, list)?;
-    let found = checking::verdict_of(checking::check(sheet, list));
-    if found.answer != 0 {
-        word(rt, b" refused")?;
-        number(rt, found.answer)?;
-    } else if found.fault == 0 {
-        word(rt, b" fits")?;
-    } else {
-        word(rt, b" fault")?;
-        number(rt, found.fault)?;
-        word(rt, b" at")?;
-        number(rt, found.at)?;
+    match checking::check(sheet, list) {
+        Ok(None) => println!(rt; " fits"),
+        Ok(Some((fault, at))) => println!(rt; " fault {} at {at}", fault.number()),
+        Err(refusal) => println!(rt; " refused {}", refusal.number()),
     }
-    word(rt, b"\n")
 }
 
 // The list of a known sheet.
-fn known_sheet(rt: &impl Print, m: usize, class: &[u8]) -> io::Result<()> {
-    let sheet = with_class(m, class);
+fn known_sheet(rt: &impl Print, m: usize, class: &[u8]) -> Result<(), Failed> {
+    let sheet = with_class(m, class)?;
     let mut area = listing::area();
-    let listed = listing::list(sheet, &mut area);
-    let n = listed.value;
-    word(rt, b"list")?;
-    if listed.number != 0 {
-        number(rt, listed.number)?;
-        return word(rt, b" refused\n");
-    }
-    if n <= 16 {
-        let k = n as usize;
-        print_list(rt, sheet, &area[..k])?;
+    let n = listing::list(&sheet, &mut area)?;
+    print!(rt; "list")?;
+    if let Some(list) = area.get(..n as usize) {
+        print_list(rt, &sheet, list)?;
     }
     Ok(())
 }
 
 // 000's own lines, and which of the two lists is before the other.
-fn document(rt: &impl Print) -> io::Result<()> {
-    let class = FUNCTION;
-    let theirs = ITS_LINES;
-    let sheet = with_class(5, &class);
-    word(rt, b"000")?;
-    print_list(rt, sheet, &theirs)?;
+fn document(rt: &impl Print) -> Result<(), Failed> {
+    let sheet = with_class(5, &FUNCTION)?;
+    print!(rt; "000")?;
+    print_list(rt, &sheet, &ITS_LINES)?;
     let mut area = listing::area();
-    let listed = listing::list(sheet, &mut area);
-    let n = listed.value;
-    if n <= 16 {
-        let k = n as usize;
-        word(rt, b"before")?;
-        print_numbers(rt, lists::before(&theirs, &area[..k]))?;
-        word(rt, b"\n")?;
+    let n = listing::list(&sheet, &mut area)?;
+    if let Some(list) = area.get(..n as usize) {
+        print!(rt; "before")?;
+        print_numbers(rt, lists::before(&ITS_LINES, list))?;
+        println!(rt;)?;
     }
     Ok(())
 }
 
-// A list that others drew for the class of 1 to 3 over two marks.
-fn drawn(rt: &impl Print, list: &[u8]) -> io::Result<()> {
-    let class = ONE_TO_THREE;
-    word(rt, b"drawn")?;
-    print_list(rt, with_class(2, &class), list)
-}
-
-fn lists_that_others_drew(rt: &impl Print) -> io::Result<()> {
-    drawn(rt, b"\x01\x05")?;
-    drawn(rt, b"\x05\x01")?;
-    drawn(rt, b"\x04\x01\x03")?;
-    drawn(rt, b"\x05\x05\x09")?;
-    drawn(rt, b"\x08\x00\x01")?;
-    drawn(rt, b"\x00\x01\x01")?;
-    drawn(rt, b"\x05\x00")?;
-    drawn(rt, b"\x01")?;
-    drawn(rt, b"")
-}
-
-// An area for a stored form.
-fn form_area() -> [u8; 64]
-    ensures { 64 ≡ length result }
-{
-    [0u8; 64]
+// Lists that others drew for the class of 1 to 3 over two marks.
+fn lists_that_others_drew(rt: &impl Print) -> Result<(), Failed> {
+    let sheet = with_class(2, &ONE_TO_THREE)?;
+    let drawn: [&[u8]; 9] = [
+        b"\x01\x05",
+        b"\x05\x01",
+        b"\x04\x01\x03",
+        b"\x05\x05\x09",
+        b"\x08\x00\x01",
+        b"\x00\x01\x01",
+        b"\x05\x00",
+        b"\x01",
+        b"",
+    ];
+    for list in drawn {
+        print!(rt; "drawn")?;
+        print_list(rt, &sheet, list)?;
+    }
+    Ok(())
 }
 
 fn print_bytes(rt: &impl Print, bytes: &[u8]) -> io::Result<()> {
     for byte in bytes {
         print!(rt; " {byte:02x}")?;
     }
-    word(rt, b"\n")
+    println!(rt;)
 }
 
 // The sheet of the desk program's sample.
-fn sample() -> Sheet {
-    let class = ONE_TO_THREE;
-    let a = changes::receive(with_class(2, &class), 3, 605);
-    let s = a.sheet;
-    let b = changes::receive(s, 1, 150);
-    let t = b.sheet;
-    let c = changes::withdraw(t, 3, 5);
-    let u = c.sheet;
-    let d = changes::receive(u, 0, 240);
-    let v = d.sheet;
-    v
+fn sample() -> Result<Sheet, Refusal> {
+    let mut sheet = with_class(2, &ONE_TO_THREE)?;
+    changes::receive(&mut sheet, 3, 605)?;
+    changes::receive(&mut sheet, 1, 150)?;
+    changes::withdraw(&mut sheet, 3, 5)?;
+    changes::receive(&mut sheet, 0, 240)?;
+    Ok(sheet)
 }
 
 // The sample's stored bytes, and those of the sheet that is read from them.
-fn stored(rt: &impl Print) -> io::Result<()> {
-    let mut area = form_area();
-    let wrote = writing::write(sample(), &mut area);
-    let n = wrote.value;
-    if n <= 64 {
-        let k = n as usize;
-        word(rt, b"stored")?;
-        print_bytes(rt, &area[..k])?;
-        let read = reading::read(&area[..k]);
-        let sheet = read.sheet;
-        let mut again = form_area();
-        let w = writing::write(sheet, &mut again);
-        let j = w.value;
-        if j <= 64 {
-            let e = j as usize;
-            word(rt, b"read back")?;
-            number(rt, read.number)?;
-            print_bytes(rt, &again[..e])?;
+fn stored(rt: &impl Print) -> Result<(), Failed> {
+    let mut area = [0u8; 64];
+    let n = writing::write(&sample()?, &mut area)?;
+    if let Some(form) = area.get(..n as usize) {
+        print!(rt; "stored")?;
+        print_bytes(rt, form)?;
+        let sheet = reading::read(form)?;
+        let mut again = [0u8; 64];
+        let k = writing::write(&sheet, &mut again)?;
+        if let Some(form) = again.get(..k as usize) {
+            print!(rt; "read back 0")?;
+            print_bytes(rt, form)?;
         }
     }
     Ok(())
 }
 
-// A text: the answer, the place, the value and the form.
-fn time(rt: &impl Print, text: &[u8]) -> io::Result<()> {
-    let r = times::answer(text);
-    word(rt, b"time ")?;
-    word(rt, text)?;
-    number(rt, r.answer)?;
-    number(rt, r.place)?;
-    number(rt, r.value)?;
-    number(rt, r.form)?;
-    word(rt, b"\n")
-}
-
+// Texts: the answer, the place, the value and the form of each.
 fn times_of_both_forms(rt: &impl Print) -> io::Result<()> {
-    time(rt, b"012:30")?;
-    time(rt, b"1:30")?;
-    time(rt, b"9:59:59")?;
-    time(rt, b"10:00:00")?;
-    time(rt, b"0:00:00")?;
-    time(rt, b"1:30:")?;
-    time(rt, b"1:30:6")?;
-    time(rt, b"1:60:00")?;
-    time(rt, b"1:3")?;
-    time(rt, b"1:00:000")
+    let texts = [
+        "012:30", "1:30", "9:59:59", "10:00:00", "0:00:00", "1:30:", "1:30:6", "1:60:00", "1:3",
+        "1:00:000",
+    ];
+    for text in texts {
+        let r = times::answer(text.as_bytes());
+        println!(rt;
+            "time {text} {} {} {} {}",
+            r.answer, r.place, r.value, r.form
+        )?;
+    }
+    Ok(())
 }
 
-fn amount(rt: &impl Print, d: u64) -> io::Result<()> {
-    let opened = Sheet::open(1);
-    let sheet = opened.sheet;
-    let r = changes::receive(sheet, 1, d);
-    word(rt, b"amount")?;
-    number(rt, d)?;
-    number(rt, r.number)?;
-    word(rt, b"\n")
+// The number of a call's answer: 0 when done.
+fn number(answer: Result<(), Refusal>) -> u64 {
+    match answer {
+        Ok(()) => 0,
+        Err(refusal) => refusal.number(),
+    }
+}
+
+fn amounts(rt: &impl Print) -> Result<(), Failed> {
+    for d in [0, 1, 35_999, 36_000] {
+        let mut sheet = Sheet::open(1)?;
+        let answer = changes::receive(&mut sheet, 1, d);
+        println!(rt; "amount {d} {}", number(answer))?;
+    }
+    Ok(())
 }
 
 // Receipts that end at 4,000,000,000 seconds, and one second more.
-fn limit(rt: &impl Print) -> io::Result<()> {
-    let opened = Sheet::open(1);
-    let mut sheet = opened.sheet;
+fn limit(rt: &impl Print) -> Result<(), Failed> {
+    let mut sheet = Sheet::open(1)?;
     for _ in 0..111_114 {
-        let r = changes::receive(sheet, 1, 35_999);
-        let next = r.sheet;
-        sheet = next;
+        changes::receive(&mut sheet, 1, 35_999)?;
     }
-    let last = changes::receive(sheet, 1, 7_114);
-    word(rt, b"held 4000000000")?;
-    number(rt, last.number)?;
-    let full = last.sheet;
-    let more = changes::receive(full, 1, 1);
-    word(rt, b"\nheld 4000000001")?;
-    number(rt, more.number)?;
-    word(rt, b"\n")
+    let last = changes::receive(&mut sheet, 1, 7_114);
+    println!(rt; "held 4000000000 {}", number(last))?;
+    let more = changes::receive(&mut sheet, 1, 1);
+    println!(rt; "held 4000000001 {}", number(more))?;
+    Ok(())
 }
 
-fn main(rt: HostRuntime) -> io::Result<()> {
-    let one_to_six = ONE_TO_SIX;
-    let all = ALL;
-    let function = FUNCTION;
-    known_sheet(&rt, 3, &one_to_six)?;
-    known_sheet(&rt, 5, &all)?;
-    known_sheet(&rt, 5, &function)?;
+fn main(rt: HostRuntime) -> Result<(), Failed> {
+    known_sheet(&rt, 3, &ONE_TO_SIX)?;
+    known_sheet(&rt, 5, &ALL)?;
+    known_sheet(&rt, 5, &FUNCTION)?;
     document(&rt)?;
     lists_that_others_drew(&rt)?;
     stored(&rt)?;
     times_of_both_forms(&rt)?;
-    amount(&rt, 0)?;
-    amount(&rt, 1)?;
-    amount(&rt, 35_999)?;
-    amount(&rt, 36_000)?;
+    amounts(&rt)?;
     limit(&rt)
 }

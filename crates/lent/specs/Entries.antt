@@ -1,13 +1,14 @@
 -- The entries for C. A sheet travels in its stored form: first the reading's answer, then the call's, then 5. The place is 0 but for 10, and the
 -- value 0 when refused; a refused entry leaves every lent byte.
-use Rattle.std.specs.Prelude.{ℕ, ◌≡◌, List}
+use Rattle.std.specs.Prelude.{ℕ, ◌≡◌, List, Result, Ok, Err}
+use Rattle.refusals.specs.Numbers.{number_of, place_of}
+use Rattle.refusals.specs.declared.Refusal.{Refusal}
 use Rattle.lists.specs.Lists.{Before}
 use Rattle.tables.specs.Tables.{entry}
 use Rattle.sheet.specs.Limits.{most_marks, entries}
 use Rattle.sheet.specs.Record.{Table, kept}
 use Rattle.sheet.specs.declared.Sheet.{Sheet}
-use Rattle.sheet.specs.Told.{Answer}
-use Rattle.sheet.specs.Told.{Value}
+use Rattle.sheet.specs.Told.{Answer, Value}
 use Rattle.stored.specs.Answers.{Reads, Writes}
 use Rattle.stored.specs.Told.{Read}
 use Rattle.checking.specs.Answers.{Checked, verdict_of}
@@ -20,6 +21,11 @@ replied number value = record { answer = number; place = 0; value = value }
 
 abbrev pub valued : Value → Reply
 valued v = replied v.number v.value
+
+-- the reply with a result: its value, or its refusal
+abbrev pub reply_of : Result ℕ Refusal → Reply
+reply_of (Ok v) = replied 0 v
+reply_of (Err e) = record { answer = number_of e; place = place_of e; value = 0 }
 
 -- the replies to what could not be read: the number and the place of reading it
 

@@ -4,17 +4,24 @@
 ghost use Rattle.std.specs.Prelude.{◌≡◌};
 ghost use Rattle.tables.specs.Tables.{entry};
 ghost use Rattle.sheet.specs.Limits.{most_marks};
-ghost use Rattle.sheet.specs.Sound.{ClassReady, Ready};
+ghost use Rattle.sheet.specs.Record.{outside_counts, either_counts, held_seconds};
+ghost use Rattle.sheet.specs.Sound.{Ready};
+ghost use Rattle.sheet.specs.Answers.{ClassSize};
+ghost use Rattle.listing.specs.Listing.{Listed};
+ghost use Rattle.totals.specs.Totals.{Totalled};
+ghost use Rattle.pla.specs.Answers.{WritesPla};
+ghost use Rattle.checking.specs.Answers.{verdict_on};
+ghost use Rattle.stored.specs.Told.{read_as};
 ghost use Rattle.changes.specs.Calls.{did_of};
-ghost use Rattle.lent.specs.Entries.{Put, ChangesBy, Changes, Tells, Judges, Lends, same, replied, no_reply, no_verdict};
-ghost use Rattle.lent.specs.Parts.{AnswerTo, LaidAs};
+ghost use Rattle.lent.specs.Entries.{ChangesBy, Changes, Tells, Judges, Lends, KeptAt, same, reply_of};
 
 use changes::Call;
-use checking::Verdict;
-use sheet::{Answer, Sheet, Value};
-use stored::Read;
+use checking::{Fault, Verdict};
+use refusals::Refusal;
+use sheet::{Refused, Sheet};
 
 // What every entry returns: the number of 01's table, the place, which is 0 for every number but 10, and the value, which is 0 when refused.
+// Numbers, as the C interface needs them: the entries of `vault_c` return this.
 #[repr(C)]
 #[derive(Clone, Copy)]
 pub struct Reply {
@@ -23,177 +30,114 @@ pub struct Reply {
     pub value: u64,
 }
 
-// The reply to bytes that are no sheet.
-fn unread(r: Read) -> Reply
-    ensures { result ≡ no_reply r }
-{
-    Reply {
-        answer: r.number,
-        place: r.place,
-        value: 0,
+impl From<Result<u64, Refusal>> for Reply {
+    ghost from_gives = { λ told r. r ≡ reply_of told };
+
+    fn from(told: Result<u64, Refusal>) -> Reply {
+        let (answer, place, value) = match told {
+            Ok(value) => (0, 0, value),
+            Err(refusal) => (refusal.number(), refusal.place(), 0),
+        };
+        Reply {
+            answer,
+            place: place as u64,
+            value,
+        }
     }
 }
 
-// The reply with a number and a value.
-pub fn replied(v: Value) -> Reply
-    ensures { result ≡ replied v.number v.value }
+// What was opened or read, written as it is; or its refusal.
+pub fn written(read: Result<Sheet, Refused>, out: &mut [u8]) -> Result<u64, Refusal>
+    requires { Ready most_marks (read_as read).sheet }
+    ensures { ChangesBy (λ a. a ≡ read_as read) same out.old (reply_of result) out.new }
 {
-    Reply {
-        answer: v.number,
-        place: 0,
-        value: v.value,
-    }
-}
-
-// The sheet that a call left, written; or the call's refusal.
-pub fn put(a: Answer, out: &mut [u8]) -> Reply
-    requires { Ready most_marks a.sheet }
-    ensures { Put a out.old result out.new }
-{
-    let number = a.number;
-    if number != 0 {
-        return replied(Value { number, value: 0 });
-    }
-    let sheet = a.sheet;
-    replied(writing::write_sound(sheet, out))
+    let s = read?;
+    writing::write_sound(&s, out)
 }
 
 // Makes a call on the lent sheet, and writes what is left.
-pub fn change(sheet: &[u8], call: Call, out: &mut [u8]) -> Reply
-    ensures { Changes (λ s. did_of most_marks s call) sheet.now out.old result out.new }
+pub fn change(sheet: &[u8], call: Call, out: &mut [u8]) -> Result<u64, Refusal>
+    ensures { Changes (λ s. did_of most_marks s call) sheet.now out.old (reply_of result) out.new }
 {
-    let read = reading::read(sheet);
-    if read.number != 0 {
-        return unread(read);
-    }
-    let s = read.sheet;
-    put(changes::did(s, call), out)
+    let mut s = reading::read(sheet)?;
+    changes::did(&mut s, call)?;
+    writing::write_sound(&s, out)
 }
 
-// What was read, written as it is; or the reading's refusal.
-pub fn rewritten(r: Read, out: &mut [u8]) -> Reply
-    requires { Ready most_marks r.sheet }
-    ensures { ChangesBy (λ a. a ≡ r) same out.old result out.new }
+// How many combinations are in the class of the lent sheet.
+pub fn class_size(sheet: &[u8]) -> Result<u64, Refusal>
+    ensures { Tells (ClassSize most_marks) sheet.now (reply_of result) }
 {
-    if r.number != 0 {
-        return unread(r);
-    }
-    let sheet = r.sheet;
-    put(Answer { number: 0, sheet }, out)
+    let s = reading::read(sheet)?;
+    Ok(s.size_sound())
 }
 
-// A kept number of the box b.
-fn kept(t: [u32; Sheet::ENTRIES], b: u64) -> Value
-    ensures { result ≡ record { number = 0; value = entry t b } }
+// The seconds held in its class.
+pub fn total(sheet: &[u8]) -> Result<u64, Refusal>
+    ensures { Tells (Totalled most_marks) sheet.now (reply_of result) }
 {
-    let at = b as usize;
-    if at < Sheet::ENTRIES {
-        return Value {
-            number: 0,
-            value: t[at] as u64,
-        };
-    }
-    Value {
-        number: 0,
-        value: 0,
-    }
+    let s = reading::read(sheet)?;
+    Ok(totals::total_sound(&s))
 }
 
-// What a lent sheet is asked: a value of its class, or the numbers that it keeps of a line.
-#[derive(Clone, Copy)]
-pub enum Question {
-    Size,
-    Total,
-    Outside(u64),
-    Either(u64),
-    Held(u64),
-}
-
-fn done(value: u64) -> Value
-    ensures { result ≡ record { number = 0; value = value } }
+// The number that a table keeps of a line; one that is no box has 0.
+fn kept(t: &[u32], line: u64) -> u64
+    ensures { result ≡ entry t.now line }
 {
-    Value { number: 0, value }
+    t.get(line as usize).copied().map_or(0, u64::from)
 }
 
-// What a sound sheet answers.
-fn answer(s: Sheet, q: Question) -> Value
-    requires { Ready most_marks s }
-    ensures { AnswerTo q s result }
+// The outside count of a line.
+pub fn outside(sheet: &[u8], line: u64) -> Result<u64, Refusal>
+    ensures { Tells (KeptAt outside_counts line) sheet.now (reply_of result) }
 {
-    let outside = s.outside;
-    let either = s.either;
-    let held = s.held;
-    match q {
-        Question::Size => done(s.size_sound()),
-        Question::Total => done(totals::total_sound(s)),
-        Question::Outside(b) => kept(outside, b),
-        Question::Either(b) => kept(either, b),
-        Question::Held(b) => kept(held, b),
-    }
+    let s = reading::read(sheet)?;
+    Ok(kept(&s.outside, line))
 }
 
-// Asks the lent sheet.
-pub fn tell(sheet: &[u8], q: Question) -> Reply
-    ensures { Tells (AnswerTo q) sheet.now result }
+// The either count of a line.
+pub fn either(sheet: &[u8], line: u64) -> Result<u64, Refusal>
+    ensures { Tells (KeptAt either_counts line) sheet.now (reply_of result) }
 {
-    let read = reading::read(sheet);
-    if read.number != 0 {
-        return unread(read);
-    }
-    let s = read.sheet;
-    replied(answer(s, q))
+    let s = reading::read(sheet)?;
+    Ok(kept(&s.either, line))
 }
 
-// What is put of a lent sheet into an area: the shortest list of its class, or the PLA text of that.
-#[derive(Clone, Copy)]
-pub enum Wanted {
-    Lines,
-    Pla,
-}
-
-// Puts it there, of a sheet whose class table is sound.
-fn lay(s: Sheet, what: Wanted, area: &mut [u8]) -> Value
-    requires { ClassReady most_marks s }
-    ensures { LaidAs what s area.old result area.new }
+// The held seconds of a line.
+pub fn held(sheet: &[u8], line: u64) -> Result<u64, Refusal>
+    ensures { Tells (KeptAt held_seconds line) sheet.now (reply_of result) }
 {
-    match what {
-        Wanted::Lines => listing::list_sound(s, area),
-        Wanted::Pla => pla_writing::write_sound(s, area),
-    }
+    let s = reading::read(sheet)?;
+    Ok(kept(&s.held, line))
 }
 
-// Puts it there, of the lent sheet.
-pub fn lend(sheet: &[u8], what: Wanted, area: &mut [u8]) -> Reply
-    ensures { Lends (LaidAs what) sheet.now area.old result area.new }
+// The shortest list of its class, put into an area.
+pub fn list(sheet: &[u8], area: &mut [u8]) -> Result<u64, Refusal>
+    ensures { Lends (Listed most_marks) sheet.now area.old (reply_of result) area.new }
 {
-    let read = reading::read(sheet);
-    if read.number != 0 {
-        return unread(read);
-    }
-    let s = read.sheet;
-    replied(lay(s, what, area))
+    let s = reading::read(sheet)?;
+    listing::list_sound(&s, area)
 }
 
-// The verdict on bytes that are no sheet.
-fn unjudged(r: Read) -> Verdict
-    ensures { result ≡ no_verdict r }
+// The PLA text of that, put there.
+pub fn write_pla(sheet: &[u8], out: &mut [u8]) -> Result<u64, Refusal>
+    ensures { Lends (WritesPla most_marks) sheet.now out.old (reply_of result) out.new }
 {
-    Verdict {
-        answer: r.number,
-        place: r.place,
-        fault: 0,
-        at: 0,
-    }
+    let s = reading::read(sheet)?;
+    pla_writing::write_sound(&s, out)
+}
+
+// The first fault of a lent list for the class of the lent sheet; none where it fits.
+fn judged(sheet: &[u8], list: &[u8]) -> Result<Option<(Fault, usize)>, Refusal>
+    ensures { Judges sheet.now list.now (verdict_on result) }
+{
+    let s = reading::read(sheet)?;
+    Ok(checking::check_sound(&s, list))
 }
 
 // Whether a lent list fits the class of the lent sheet, and else its first fault.
 pub fn judge(sheet: &[u8], list: &[u8]) -> Verdict
     ensures { Judges sheet.now list.now result }
 {
-    let read = reading::read(sheet);
-    if read.number != 0 {
-        return unjudged(read);
-    }
-    let s = read.sheet;
-    checking::verdict_of(checking::check_sound(s, list))
+    Verdict::from(judged(sheet, list))
 }

@@ -13,6 +13,7 @@ use times;
 use times::{Form, Time};
 
 // What a line behind line 1 asks for: a call on the sheet, with the form of its running time if it has one, or the end.
+// The three cases stay: `Asked`, `RowAsks` and the theorems over them speak of each.
 #[derive(Clone, Copy)]
 pub enum Order {
     Make(Call, Option<Form>),
@@ -115,7 +116,7 @@ pub fn read_marks(line: &[u8]) -> Option<usize>
     Some(usize::from(n))
 }
 
-// What the line at hand asks for; one that is too long or cut off is unreadable.
+// What the line at hand asks for; one that is too long or cut off is unreadable. A generic function for this and `year_lines::slip_of` would be no shorter.
 pub fn order_of(line: &Line, m: usize) -> Order
     requires { m ≤ 8 }
     ensures { RowAsks m (row_of (told line.now)) result }

@@ -1,31 +1,18 @@
 -- The line at hand is the line that has begun, judged: each byte that is taken makes both longer.
 use Prim.Native.Nat.{ℕ, suc, ◌+◌, ◌≤◌, ◌<◌}
 use mathlib.Core.Bool.{true, false, cond}
-use mathlib.Core.Path.{◌≡◌, refl, sym, ap, ap₂, ◌∙◌, subst}
+use mathlib.Core.Path.{◌≡◌, refl, sym, ap, ◌∙◌, subst}
 use mathlib.Core.List.{List, [], ◌∷◌, ◌++◌, append-nil}
 use native.Mathlib.Numerals.{add-one}
 use native.Mathlib.Omega.{arith}
-use native.Mathlib.Nat.{ℕ_set}
-use native.Mathlib.Bridge.{le_prop}
 use lib.Dec.{leb, ltb, eqb}
 use lib.ListN.{length, get_or, take, drop, drop_of_length-le, length-append, length-set}
 use lib.Seq.{take-suc-set, take_all, length-take-le, append_snoc, drop-cons}
-use borrow.Author.Tests.{le-leb, lt-leb, ltb-true, ltb-false, leb-false, eq-eqb, ne_eqb}
+use borrow.Author.Tests.{le-leb, lt-leb, leb-true, ltb-true, ltb-false, leb-false, eq-eqb, ne_eqb}
 use Rattle.ground.proofs.Cases.{if}
-use Rattle.machine.specs.declared.line.Line.{Line as Held}
+use Rattle.machine.specs.declared.line.Line.{Line}
 use Rattle.machine.specs.Rows.{most_bytes, Row, whole, spoiled, judged}
-use Rattle.machine.specs.AtHand.{told, row_of, empty, pushed, typed_on, typed, is_none, LineFits, line_cut_off, cut_of, Cut, Line}
-
--- a line is known by what is told of it
-
-held : (x : Line) → length x.text ≡ most_bytes → x.len ≤ most_bytes → Held
-held x f w = record { number = x.number; text = x.text; len = x.len; long = x.long; full = f; within = w }
-
-pub line_is : {l m : Held} → told l ≡ told m → l ≡ m
-unfolding held
-line_is {l} {m} e =
-    subst (λ (x : Line). (f : length x.text ≡ most_bytes) (w : x.len ≤ most_bytes) → l ≡ held x f w) e
-    (λ f w. ap₂ (held (told l)) (ℕ_set _ _ l.full f) (le_prop l.within w)) m.full m.within
+use Rattle.machine.specs.AtHand.{row_of, empty, pushed, typed_on, typed, is_none, LineFits, line_cut_off, cut_of, Cut}
 
 -- one byte more; the 41st spoils it
 longer : Row → ℕ → Row
@@ -133,6 +120,24 @@ row_long l e = rw e
 pub row_short : (l : Line) → l.long ≡ false → row_of l ≡ whole (take l.len l.text)
 unfolding row_of
 row_short l e = rw e
+
+-- the bytes that have come, of a line of any length beside them
+
+pub none_taken : (n : ℕ) (t : List ℕ) → length t ≡ most_bytes → eqb (length (take n t)) 0 ≡ eqb n 0
+none_taken n t l =
+    if (leb n most_bytes)
+    (λ e. ap (λ (k : ℕ). eqb k 0) (length-take-le n t (omega (arith, l, leb-true n most_bytes e))))
+    (λ e.
+    let h : most_bytes < n = leb-false n most_bytes e in
+    ap (λ (k : ℕ). eqb k 0) (ap length (take_all n t (omega arith)) ∙ l) ∙ sym (ne_eqb n 0 (λ (z : n ≡ 0). omega arith)))
+
+pub all_taken : (n k : ℕ) (t : List ℕ) → length t ≡ most_bytes → (n ≤ most_bytes → k ≡ n) → (most_bytes < n → k ≡ most_bytes) → take k t ≡ take n t
+all_taken n k t l few many =
+    if (leb n most_bytes)
+    (λ e. ap (λ (i : ℕ). take i t) (few (leb-true n most_bytes e)))
+    (λ e.
+    let h : most_bytes < n = leb-false n most_bytes e in
+    take_all k t (omega (arith, l, many h)) ∙ sym (take_all n t (omega (arith, l, h))))
 
 pub cut_off_fits : {l m : Line} → m ≡ line_cut_off l → LineFits l → LineFits m
 cut_off_fits e f = subst LineFits (sym e) (record { text = f.text; len = f.len })

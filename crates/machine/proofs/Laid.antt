@@ -44,19 +44,20 @@ wrote_behind {out} {o₁} {o₂} {r₁} {b = b} p q f g =
       length-take-le r₁ o₁ (wrote_front p).1,
     ))
 
-spoken-length : (k a : ℕ) → k < 2 ^ 64 → a < 2 ^ 64 → length (spoken k a) ≤ 50
+pub refusal-length : (k a : ℕ) → k < 2 ^ 64 → a < 2 ^ 64 → length (refusal k a) ≤ 50
 unfolding refusal
-spoken-length k a h l =
-    if (eqb a 0)
-    (λ e. rw e (omega arith))
-    (λ e. rw e (omega (
+refusal-length k a h l =
+    omega (
       arith,
       number_room k h,
       number_room a l,
       length-append (decimal k) (ascii " "),
       length-append (decimal k ++ ascii " ") (decimal a),
       length-append (decimal k ++ ascii " " ++ decimal a) (10 ∷ []),
-    )))
+    )
+
+spoken-length : (k a : ℕ) → k < 2 ^ 64 → a < 2 ^ 64 → length (spoken k a) ≤ 50
+spoken-length k a h l = if (eqb a 0) (λ e. rw e (omega arith)) (λ e. rw e (refusal-length k a h l))
 
 -- a refusal, or nothing, has room
 pub spoken_short : (k a : ℕ) {w : ℕ} {out later : List ℕ} → Wrote out 0 (spoken k a) w later → k < 2 ^ 64 → a < 2 ^ 64 → w ≤ page_room

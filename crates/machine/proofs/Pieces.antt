@@ -15,7 +15,8 @@ use Rattle.machine.specs.Rows.{Row, judged, rows_from, rows}
 use Rattle.machine.specs.Machine.{Machine, Onward, stopped, line, Output}
 use Rattle.machine.specs.Pieces.{Position, in-line, start, line_in, Takes, none, byte, newline, Finishes, ended, cut_off, InPieces, done, piece, up_to_newline, FedBy, FinishedBy}
 use Rattle.machine.specs.Steps.{SteppedBy, StoppedBy}
-use Rattle.machine.specs.AtHand.{row_of, typed, is_none, line_cut_off, cut_of, Cut, Line}
+use Rattle.machine.specs.declared.line.Line.{Line}
+use Rattle.machine.specs.AtHand.{row_of, typed, is_none, line_cut_off, cut_of, Cut}
 use Rattle.machine.proofs.AtHand.{typed_more, typed_row, typed_number, none_judged, row_long}
 use Rattle.machine.proofs.Laid.{wrote_behind}
 

@@ -1,17 +1,11 @@
 -- What the functions tell their callers of the line at hand: its number, and as much of it as has come.
 use Rattle.std.specs.Prelude.{ℕ, suc, ◌+◌, ◌≤◌, Bool, false, true, cond, ◌≡◌, List, [], ◌∷◌, eqb, ltb, length, take, set, replicate}
 use Rattle.machine.specs.Rows.{most_bytes, Row, whole, spoiled}
-use Rattle.machine.specs.declared.line.Line.{Line as Held}
+use Rattle.machine.specs.declared.line.Line.{Line}
 
--- a line at hand, as it is told
-pub record Line : Type 0 where
-  pub number : ℕ
-  pub text : List ℕ
-  pub len : ℕ
-  pub long : Bool
-
-abbrev pub told : Held → Line
-told l = record { number = l.number; text = l.text; len = l.len; long = l.long }
+-- for now
+abbrev pub told : Line → Line
+told l = l
 
 unfoldable pub row_of : Line → Row
 row_of l = cond l.long spoiled (whole (take l.len l.text))
@@ -36,7 +30,7 @@ typed_on l (b ∷ rest) = typed_on (pushed l b) rest
 abbrev pub typed : ℕ → List ℕ → Line
 typed k begun = typed_on (empty k) begun
 
--- what holds of every line at hand (machine/src/line: its ghost fields)
+-- what holds of every line at hand
 pub record LineFits (l : Line) : Type 0 where
   pub text : length l.text ≡ most_bytes
   pub len : l.len ≤ most_bytes

@@ -4,8 +4,7 @@
 mod line;
 mod program;
 mod said;
-mod taking;
 
 pub use line::Line;
 pub use program::Program;
-pub use said::{put_both, put_pair, put_refusal, put_spoken, refusal, spoken};
+pub use said::{put_both, put_pair, put_refusal, refusal, spoken};

@@ -1,4 +1,4 @@
-// `refused K A`, laid in a lent area.
+// `refused K A`, laid on a page or in a lent area.
 ghost use Rattle.std.specs.Prelude.{◌++◌, ◌+◌, ◌≤◌, length};
 ghost use Rattle.ground.specs.Areas.{Wrote};
 ghost use Rattle.ground.specs.Texts.{ascii};
@@ -10,37 +10,6 @@ ghost use Rattle.machine.specs.AtHand.{refusal_room};
 use print::Page;
 
 // A word, a number, what stands between, a number and a newline.
-pub fn put_pair(out: &mut [u8], at: usize, word: &[u8], x: u64, between: &[u8], y: u64) -> usize
-    requires { at + length word.now + length between.now + 41 ≤ length out.old }
-    ensures { Wrote out.old at (word.now ++ decimal x ++ between.now ++ decimal y ++ ascii "\n") result out.new }
-{
-    let a = ground::put(out, at, word);
-    let b = print::put_number(out, a, x);
-    let c = ground::put(out, b, between);
-    let d = print::put_number(out, c, y);
-    ground::put_byte(out, d, b'\n')
-}
-
-// `refused K A`.
-pub fn refusal(out: &mut [u8], number: u64, answer: u64) -> usize
-    requires { refusal_room ≤ length out.old }
-    ensures { Wrote out.old 0 (refusal_text number answer) result out.new }
-{
-    put_pair(out, 0, b"refused ", number, b" ", answer)
-}
-
-// The same, where there is something to refuse.
-pub fn spoken(out: &mut [u8], number: u64, answer: u64) -> usize
-    requires { refusal_room ≤ length out.old }
-    ensures { Wrote out.old 0 (spoken_text number answer) result out.new }
-{
-    if answer == 0 {
-        return 0;
-    }
-    refusal(out, number, answer)
-}
-
-// A word, a number, what stands between, a number and a newline, on a page.
 pub fn put_both(page: &mut Page, word: &[u8], x: u64, between: &[u8], y: u64)
     requires { HasRoom page.old (length word.now + length between.now + 41) }
     ensures { Puts page.old page.new (word.now ++ decimal x ++ between.now ++ decimal y ++ ascii "\n") }
@@ -52,7 +21,7 @@ pub fn put_both(page: &mut Page, word: &[u8], x: u64, between: &[u8], y: u64)
     page.put_byte(b'\n');
 }
 
-// `refused K A`, on a page.
+// `refused K A`: the number of a line, and that of its refusal, side by side here alone.
 pub fn put_refusal(page: &mut Page, number: u64, answer: u64)
     requires { HasRoom page.old refusal_room }
     ensures { Puts page.old page.new (refusal_text number answer) }
@@ -60,12 +29,33 @@ pub fn put_refusal(page: &mut Page, number: u64, answer: u64)
     put_both(page, b"refused ", number, b" ", answer);
 }
 
-// The same, where there is something to refuse.
-pub fn put_spoken(page: &mut Page, number: u64, answer: u64)
-    requires { HasRoom page.old refusal_room }
-    ensures { Puts page.old page.new (spoken_text number answer) }
+// A pair at a place of a lent area; answers the next place.
+pub fn put_pair(out: &mut [u8], at: usize, word: &[u8], x: u64, between: &[u8], y: u64) -> usize
+    requires { at + length word.now + length between.now + 41 ≤ length out.old }
+    ensures { Wrote out.old at (word.now ++ decimal x ++ between.now ++ decimal y ++ ascii "\n") result out.new }
 {
-    if answer != 0 {
-        put_refusal(page, number, answer);
+    let mut page = Page::behind(out, at);
+    put_both(&mut page, word, x, between, y);
+    page.len
+}
+
+// A refusal in front of a lent area; answers its length.
+pub fn refusal(out: &mut [u8], number: u64, answer: u64) -> usize
+    requires { refusal_room ≤ length out.old }
+    ensures { Wrote out.old 0 (refusal_text number answer) result out.new }
+{
+    let mut page = Page::new(out);
+    put_refusal(&mut page, number, answer);
+    page.len
+}
+
+// The same, where there is something to refuse.
+pub fn spoken(out: &mut [u8], number: u64, answer: u64) -> usize
+    requires { refusal_room ≤ length out.old }
+    ensures { Wrote out.old 0 (spoken_text number answer) result out.new }
+{
+    if answer == 0 {
+        return 0;
     }
+    refusal(out, number, answer)
 }

@@ -31,3 +31,11 @@ wrote_of {a} {b} {t} p h = record {
     rest =
         ext_get_or 0 _ _ (simp length-drop (omega (arith, p.long)))
         (λ i l. get_or-drop b.len b.area.now i 0 ∙ p.behind (b.len + i) (omega arith) ∙ sym (get_or-drop b.len a.area.now i 0))
+
+-- the same of a page that was laid over an area, from a place on
+pub wrote_on : {a b : Page} {t out now : List ℕ} {at : ℕ} → Puts a b t → a.area.now ≡ out → a.len ≡ at → at + length t ≤ length out → b.area.now ≡ now
+    → Wrote out at t b.len now
+wrote_on {a} {b} {t} {now = now} {at = at} p e f h g =
+    subst (λ (o : List ℕ). Wrote o at t b.len now) e
+    (subst (λ (o : List ℕ). Wrote a.area.now at t b.len o) g
+    (subst (λ (n : ℕ). Wrote a.area.now n t b.len b.area.now) f (wrote_of p (omega (arith, ap length e)))))

@@ -11,7 +11,7 @@ pub struct Page<'a> {
     pub len: usize,
 }
 
-// The byte of a box's digit: 0 off, 1 on, `-` free.
+// The byte of a box's digit: 0 off, 1 on, `-` free, which no printing of numbers knows.
 fn sign(d: usize) -> u8
     requires { d < 3 }
     ensures { result ≡ sign d }
@@ -30,6 +30,15 @@ impl<'a> Page<'a> {
         ensures empty { result.len ≡ 0 }
     {
         Page { area, len: 0 }
+    }
+
+    // An area of which so many bytes are written already.
+    pub fn behind(area: &'a mut [u8], len: usize) -> Page<'a>
+        ensures same { result.area.ghost_name ≡ area.entry.ghost_name }
+        ensures area { result.area.now ≡ area.old }
+        ensures len { result.len ≡ len }
+    {
+        Page { area, len }
     }
 
     // A text behind what there is.
@@ -60,7 +69,7 @@ impl<'a> Page<'a> {
         self.put(digits.format(n).as_bytes());
     }
 
-    // A number below 100 in two digits.
+    // A number below 100 in two digits. By hand, since `itoa` writes no zero in front.
     pub fn put_two(&mut self, n: u64)
         requires below { n < 100 }
         requires room { HasRoom self.old 2 }

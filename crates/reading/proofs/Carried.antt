@@ -1,6 +1,6 @@
 -- The groups behind the sections: how the run goes over a group, from one to the next, and over the count in front of them; a profile is read where it is
 -- complete and obeyed.
-use Rattle.std.proofs.Common.{◌≡◌, ◌∙◌, ℕ, zero, suc, ◌-◌, ◌^◌, ◌<◌, refl, sym, ap, subst, true, false, List, [], ◌∷◌, length, arith}
+use Rattle.std.proofs.Common.{◌≡◌, ◌∙◌, ℕ, zero, suc, ◌-◌, ◌^◌, ◌<◌, refl, sym, ap, true, false, List, [], ◌∷◌, length, arith}
 use native.Mathlib.Numerals.{sub-one}
 use borrow.Author.Tests.{ne_eqb, lt-ltb, ltb-true}
 use Rattle.ground.proofs.Cases.{same_or}
@@ -15,7 +15,7 @@ use Rattle.sheet.specs.Record.{Record, with_profile, Obeys}
 use Rattle.stored.specs.Fields.{due, groups, group, perhaps, complete, end, groups_due, judge, Outcome, Run, done, without, with, broken, obeyed}
 use Rattle.sections.specs.Places.{offset_of, Fits, Faulty}
 use Rattle.sections.specs.Parts.{Leads, Stops}
-use Rattle.sections.specs.declared.fields.Form.{Form}
+use Rattle.sections.specs.declared.fields.Fields.{Fields}
 use Rattle.sections.proofs.Offsets.{start as at_start, then, then_stops, field_taken, field_missed, field_barred}
 use Rattle.reading.specs.Parts.{Carried, Dropped, With, Covered, ProfileBefore}
 
@@ -32,10 +32,10 @@ module _ (r : Record) where
   none_left at [] o e x = nothing_more at o x
   none_left at (b ∷ l) o e x = absurd (omega arith)
 
-  perhaps_some : (f : Form) → 0 < length f.rest.now → Leads (perhaps r) f (due (groups r (offset_of f))) f
+  perhaps_some : (f : Fields) → 0 < length f.rest.now → Leads (perhaps r) f (due (groups r (offset_of f))) f
   perhaps_some f h = record { on = λ o x. some_left (offset_of f) f.rest.now o h x }
 
-  perhaps_none : (f : Form) → length f.rest.now ≡ 0 → r.profile ≡ None → Leads (perhaps r) f (end (with_profile None r)) f
+  perhaps_none : (f : Fields) → length f.rest.now ≡ 0 → r.profile ≡ None → Leads (perhaps r) f (end (with_profile None r)) f
   perhaps_none f h e = record { on = λ o x. none_left (offset_of f) f.rest.now o h (rw (← e) at x) }
 
 -- a group
@@ -43,26 +43,26 @@ module _ {m : ℕ} {p : Profile} {r : Record} (start left : ℕ) (b : With m p r
   follows : (g : ℕ) → may_follow r.marks r.profile g ≡ may_follow m p g
   follows g = rw (b.marks, b.profile)
 
-  group_taken : {f h : Form} {g : ℕ} → Fits f 1 0 255 h g → may_follow m p g ≡ true
+  pub group_taken : {f h : Fields} {g : ℕ} → Fits f 1 0 255 h g → may_follow m p g ≡ true
       → Leads (due (group r start left)) f (groups_due (with_profile (followed p g) r) start left) h
   unfolding judge
   group_taken {f} {h} {g} v may = field_taken (group r start left) refl f v (groups_due (with_profile (followed p g) r) start left) (rw (follows g ∙ may, b.profile))
 
-  group_barred : {f h : Form} {g : ℕ} → Fits f 1 0 255 h g → may_follow m p g ≡ false → Stops (due (group r start left)) f (Unreadable (offset_of f))
+  pub group_barred : {f h : Fields} {g : ℕ} → Fits f 1 0 255 h g → may_follow m p g ≡ false → Stops (due (group r start left)) f (Unreadable (offset_of f))
   unfolding judge
   group_barred {f} {h} {g} v bar = field_barred (group r start left) refl f v (rw (follows g ∙ bar))
 
-  group_missed : {f : Form} {e : Refusal} → Faulty f 1 0 255 e → Stops (due (group r start left)) f e
+  group_missed : {f : Fields} {e : Refusal} → Faulty f 1 0 255 e → Stops (due (group r start left)) f e
   group_missed {f} w = field_missed (group r start left) refl f w (λ x small never. absurd (never (omega arith) (omega arith)))
 
-module _ {p : Profile} {f h : Form} {g : ℕ} (v : Fits f 1 0 255 h g) (start left : ℕ) where
-  pub group_carried : may_follow h.marks p g ≡ true → Carried (With f.marks p) (λ (r : Record). due (group r start left)) (λ (r : Record). groups_due r start left) f h (followed p g)
-  group_carried may = record { marks = v.marks; leads = λ r b. group_taken start left b v (ap (λ (m : ℕ). may_follow m p g) (sym v.marks) ∙ may) }
+module _ {m : ℕ} {p : Profile} {f h : Fields} {g : ℕ} (v : Fits f 1 0 255 h g) (start left : ℕ) where
+  pub group_carried : may_follow m p g ≡ true → Carried (With m p) (λ (r : Record). due (group r start left)) (λ (r : Record). groups_due r start left) f h (followed p g)
+  group_carried may = record { leads = λ r b. group_taken start left b v may }
 
-  pub group_dropped : may_follow h.marks p g ≡ false → Dropped (With f.marks p) (λ (r : Record). due (group r start left)) f (Unreadable (offset_of f))
-  group_dropped bar = record { stops = λ r b. group_barred start left b v (ap (λ (m : ℕ). may_follow m p g) (sym v.marks) ∙ bar) }
+  pub group_dropped : may_follow m p g ≡ false → Dropped (With m p) (λ (r : Record). due (group r start left)) f (Unreadable (offset_of f))
+  group_dropped bar = record { stops = λ r b. group_barred start left b v bar }
 
-pub group_faulty : {m : ℕ} {p : Profile} {f : Form} {e : Refusal} → Faulty f 1 0 255 e → (start left : ℕ)
+pub group_faulty : {m : ℕ} {p : Profile} {f : Fields} {e : Refusal} → Faulty f 1 0 255 e → (start left : ℕ)
     → Dropped (With m p) (λ (r : Record). due (group r start left)) f e
 group_faulty w start left = record { stops = λ r b. group_missed start left b w }
 
@@ -76,54 +76,50 @@ groups_end : (r : Record) (start left : ℕ) → left ≡ 0 → groups_due r sta
 groups_end r start zero e = refl
 groups_end r start (suc k) e = absurd (omega arith)
 
-pub record GroupsReached (n : ℕ) (f g : Form) (p : Profile) (left : ℕ) : Type 0 where
-  pub carried : (start : ℕ) → Carried (With f.marks None) (λ (r : Record). groups_due r start n) (λ (r : Record). groups_due r start left) f g p
+pub record GroupsReached (m n : ℕ) (f g : Fields) (p : Profile) (left : ℕ) : Type 0 where
+  pub carried : (start : ℕ) → Carried (With m None) (λ (r : Record). groups_due r start n) (λ (r : Record). groups_due r start left) f g p
 
-pub groups_none : (n : ℕ) (f : Form) → GroupsReached n f f None n
-groups_none n f = record {
-  carried = λ start. record { marks = refl; leads = λ r b. rw (← b.profile) (at_start (groups_due r start n) f) };
+pub groups_none : (m n : ℕ) (f : Fields) → GroupsReached m n f f None n
+groups_none m n f = record {
+  carried = λ start. record { leads = λ r b. rw (← b.profile) (at_start (groups_due r start n) f) };
 }
 
-module _ {n : ℕ} {f g : Form} {p : Profile} {left : ℕ} (v : GroupsReached n f g p left) where
-  kept : (r : Record) → With f.marks None r → With g.marks p (with_profile p r)
-  kept r b = record { marks = b.marks ∙ sym (v.carried 0).marks; profile = refl }
-
-  pub groups_done : left ≡ 0 → (start : ℕ) → Carried (With f.marks None) (λ (r : Record). groups_due r start n) (λ (r : Record). complete r start) f g p
-  groups_done e start = record { marks = (v.carried start).marks; leads = λ r b. rw (← groups_end (with_profile p r) start left e) ((v.carried start).leads r b) }
+module _ {m n : ℕ} {f g : Fields} {p : Profile} {left : ℕ} (v : GroupsReached m n f g p left) where
+  pub groups_done : left ≡ 0 → (start : ℕ) → Carried (With m None) (λ (r : Record). groups_due r start n) (λ (r : Record). complete r start) f g p
+  groups_done e start = record { leads = λ r b. rw (← groups_end (with_profile p r) start left e) ((v.carried start).leads r b) }
 
   module _ (some : 0 < left) where
-    pub groups_more : {h : Form} {q : Profile}
-        → ((start left : ℕ) → Carried (With g.marks p) (λ (r : Record). due (group r start left)) (λ (r : Record). groups_due r start left) g h q)
-        → GroupsReached n f h q (left - 1)
+    pub groups_more : {h : Fields} {q : Profile}
+        → ((start left : ℕ) → Carried (With m p) (λ (r : Record). due (group r start left)) (λ (r : Record). groups_due r start left) g h q)
+        → GroupsReached m n f h q (left - 1)
     groups_more {h} {q} w = record {
       carried = λ start. record {
-        marks = (w start (left - 1)).marks ∙ (v.carried start).marks;
         leads = λ r b.
             then ((v.carried start).leads r b)
-            (rw (groups_some (with_profile p r) start left some) ((w start (left - 1)).leads (with_profile p r) (kept r b)));
+            (rw (groups_some (with_profile p r) start left some) ((w start (left - 1)).leads (with_profile p r) (record { marks = b.marks; profile = refl })));
       };
     }
 
-    pub groups_dropped : {e : Refusal} → ((start left : ℕ) → Dropped (With g.marks p) (λ (r : Record). due (group r start left)) g e)
-        → (start : ℕ) → Dropped (With f.marks None) (λ (r : Record). groups_due r start n) f e
+    pub groups_dropped : {e : Refusal} → ((start left : ℕ) → Dropped (With m p) (λ (r : Record). due (group r start left)) g e)
+        → (start : ℕ) → Dropped (With m None) (λ (r : Record). groups_due r start n) f e
     groups_dropped w start = record {
       stops = λ r b.
           then_stops ((v.carried start).leads r b)
-          (rw (groups_some (with_profile p r) start left some) ((w start (left - 1)).stops (with_profile p r) (kept r b)));
+          (rw (groups_some (with_profile p r) start left some) ((w start (left - 1)).stops (with_profile p r) (record { marks = b.marks; profile = refl })));
     }
 
 -- the count in front of them
-module _ {f : Form} (r : Record) (some : 0 < length f.rest.now) where
-  counted : {g : Form} {n : ℕ} → Fits f 2 1 2 g n → Leads (perhaps r) f (groups_due r (offset_of f) n) g
+module _ {f : Fields} (r : Record) (some : 0 < length f.rest.now) where
+  pub profile_counted : {g : Fields} {n : ℕ} → Fits f 2 1 2 g n → Leads (perhaps r) f (groups_due r (offset_of f) n) g
   unfolding judge count_ok
-  counted {g} {n} v =
+  profile_counted {g} {n} v =
       let two : (n ≡ 1 → ⊥) → n ≡ 2 = λ q. omega (arith, v.least, v.most) in
       then (perhaps_some r f some)
       (field_taken (groups r (offset_of f)) refl f v (groups_due r (offset_of f) n) (same_or n 1 (λ e. rw e) (λ q. rw (two q))))
 
-  uncounted : {e : Refusal} → Faulty f 2 1 2 e → Stops (perhaps r) f e
+  pub profile_uncounted : {e : Refusal} → Faulty f 2 1 2 e → Stops (perhaps r) f e
   unfolding judge count_ok
-  uncounted w =
+  profile_uncounted w =
       then_stops (perhaps_some r f some)
       (field_missed (groups r (offset_of f)) refl f w
       (λ x small never. rw (ne_eqb x 1 (λ e. never (omega arith) (omega arith)), ne_eqb x 2 (λ e. never (omega arith) (omega arith)))))
@@ -142,36 +138,28 @@ module _ {m : ℕ} {eithers : List ℕ} {r : Record} (b : ProfileBefore m either
   obeys_told o c l x =
       ltb-true 0 (entry eithers c) (sym (b.told c l) ∙ o c (omega (arith, same_size)) (ap (λ (k : ℕ). breaks k p c) b.plain.marks ∙ x))
 
-module _ {eithers : List ℕ} {f : Form} where
-  pub profile_none : length f.rest.now ≡ 0 → Carried (ProfileBefore f.marks eithers) perhaps end f f None
-  profile_none h = record { marks = refl; leads = λ r b. perhaps_none r f h b.plain.profile }
+module _ {m : ℕ} {eithers : List ℕ} {f : Fields} where
+  pub profile_none : length f.rest.now ≡ 0 → Carried (ProfileBefore m eithers) perhaps end f f None
+  profile_none h = record { leads = λ r b. perhaps_none r f h b.plain.profile }
 
   module _ (some : 0 < length f.rest.now) where
-    pub profile_uncounted : {e : Refusal} → Faulty f 2 1 2 e → Dropped (ProfileBefore f.marks eithers) perhaps f e
-    profile_uncounted w = record { stops = λ r b. uncounted r some w }
+    pub profile_missed : {e : Refusal} → Faulty f 2 1 2 e → Dropped (ProfileBefore m eithers) perhaps f e
+    profile_missed w = record { stops = λ r b. profile_uncounted r some w }
 
-    module _ {g : Form} {n : ℕ} (v : Fits f 2 1 2 g n) where
-      plain : (r : Record) → ProfileBefore f.marks eithers r → With g.marks None r
-      plain r b = record { marks = b.plain.marks ∙ sym v.marks; profile = b.plain.profile }
+    module _ {g : Fields} {n : ℕ} (v : Fits f 2 1 2 g n) where
+      pub profile_dropped : {e : Refusal} → ((start : ℕ) → Dropped (With m None) (λ (r : Record). groups_due r start n) g e)
+          → Dropped (ProfileBefore m eithers) perhaps f e
+      profile_dropped w = record { stops = λ r b. then_stops (profile_counted r some v) ((w (offset_of f)).stops r b.plain) }
 
-      pub profile_dropped : {e : Refusal} → ((start : ℕ) → Dropped (With g.marks None) (λ (r : Record). groups_due r start n) g e)
-          → Dropped (ProfileBefore f.marks eithers) perhaps f e
-      profile_dropped w = record { stops = λ r b. then_stops (counted r some v) ((w (offset_of f)).stops r (plain r b)) }
+      module _ {h : Fields} {p : Profile}
+          (w : (start : ℕ) → Carried (With m None) (λ (r : Record). groups_due r start n) (λ (r : Record). complete r start) g h p) where
+        to_complete : (r : Record) → ProfileBefore m eithers r → Leads (perhaps r) f (complete (with_profile p r) (offset_of f)) h
+        to_complete r b = then (profile_counted r some v) ((w (offset_of f)).leads r b.plain)
 
-      module _ {h : Form} {p : Profile}
-          (w : (start : ℕ) → Carried (With g.marks None) (λ (r : Record). groups_due r start n) (λ (r : Record). complete r start) g h p) where
-        to_complete : (r : Record) → ProfileBefore f.marks eithers r → Leads (perhaps r) f (complete (with_profile p r) (offset_of f)) h
-        to_complete r b = then (counted r some v) ((w (offset_of f)).leads r (plain r b))
+        pub profile_obeyed : Covered m p eithers → Carried (ProfileBefore m eithers) perhaps end f h p
+        profile_obeyed c = record { leads = λ r b. then (to_complete r b) (record { on = λ o x. obeyed (told_obeys b p c) x }) }
 
-        pub profile_obeyed : Covered h.marks p eithers → Carried (ProfileBefore f.marks eithers) perhaps end f h p
-        profile_obeyed c = record {
-          marks = (w 0).marks ∙ v.marks;
-          leads = λ r b. then (to_complete r b) (record { on = λ o x. obeyed (told_obeys b p (subst (λ (m : ℕ). Covered m p eithers) ((w 0).marks ∙ v.marks) c)) x });
-        }
-
-        pub profile_broken : (Covered h.marks p eithers → ⊥) → Dropped (ProfileBefore f.marks eithers) perhaps f (Unreadable (offset_of f))
+        pub profile_broken : (Covered m p eithers → ⊥) → Dropped (ProfileBefore m eithers) perhaps f (Unreadable (offset_of f))
         profile_broken never = record {
-          stops = λ r b.
-              then_stops (to_complete r b)
-              (record { run = broken (λ o. never (subst (λ (m : ℕ). Covered m p eithers) (sym ((w 0).marks ∙ v.marks)) (obeys_told b p o))) });
+          stops = λ r b. then_stops (to_complete r b) (record { run = broken (λ o. never (obeys_told b p o)) });
         }

@@ -21,9 +21,9 @@ use Rattle.stored.specs.Sections.{Rest}
 use Rattle.stored.specs.Told.{read_as}
 use Rattle.stored.specs.declared.Layout.{Layout}
 use Rattle.stored.specs.declared.Section.TheVariants.{Class, Held}
-use Rattle.sections.specs.Parts.{Leads, Stops, ReadBefore, Got, Missed}
-use Rattle.sections.specs.Places.{offset_of, Begun}
-use Rattle.sections.specs.declared.fields.Form.{Form}
+use Rattle.sections.specs.Parts.{Leads, Stops, ReadBefore, Got, Missed, Begun}
+use Rattle.sections.specs.Places.{offset_of}
+use Rattle.sections.specs.declared.form.Form.{Form}
 use Rattle.sections.proofs.Offsets.{then, then_stops, left_over, all_read}
 use Rattle.reading.specs.Parts.{EitherFound, EitherMissed, EndFound, EndMissed}
 use Rattle.reading.proofs.Whole.{behind_class, behind_held, refusal_read, marks_taken, class_read, standings_read, held_read, whole_record, before_class, before_held, EitherGot, either_found, either_missed, end_found, end_missed, times_addable, outs_addable, read_answered}
@@ -34,70 +34,72 @@ none_barred m few = before_class m (replicate 32 0) (λ k l. same-entry m 0 k fe
 module _ (layout : Layout) {t : List ℕ} {f : Form} (b : Begun t f) where
   -- the run from behind the marks stops, and so does all of it
   stopped : (result : Result Sheet Refused) (e : Refusal) → IsErrAnd result (λ r. r ≡ refused_sheet entries e)
-      → Stops (due (count Class (behind_class layout) (opened f.marks))) f e → ReadsBy layout most_marks entries t (read_as result)
+      → Stops (due (count Class (behind_class layout) (opened f.marks))) f.fields e → ReadsBy layout most_marks entries t (read_as result)
   stopped result e p w = refusal_read layout result e p (marks_taken layout b (refused (number_of e) (place_of e)) w.run)
 
   pub class_refused : (result : Result Sheet Refused) (e : Refusal) → IsErrAnd result (λ r. r ≡ refused_sheet entries e)
-      → Missed Class f.marks (replicate 32 0) (λ (rest : Rest) (q : Record). due (count Class rest q)) f e → ReadsBy layout most_marks entries t (read_as result)
+      → Missed Class f.marks (replicate 32 0) (λ (rest : Rest) (q : Record). due (count Class rest q)) f.fields e → ReadsBy layout most_marks entries t (read_as result)
   class_refused result e p w = stopped result e p (w.stops (behind_class layout) (opened f.marks) (none_barred f.marks f.few))
 
-  module _ {ins : List ℕ} {f₂ : Form} (class : Got Class f.marks (replicate 32 0) (λ (rest : Rest) (q : Record). due (count Class rest q)) rest_due f f₂ ins) where
-    past_class : Leads (due (count Class (behind_class layout) (opened f.marks))) f (rest_due (behind_class layout) (class_read f.marks ins)) f₂
+  module _ (f₂ : Form) (same₂ : f₂.marks ≡ f.marks) {ins : List ℕ}
+      (class : Got Class f.marks (replicate 32 0) (λ (rest : Rest) (q : Record). due (count Class rest q)) rest_due f.fields f₂.fields ins) where
+    past_class : Leads (due (count Class (behind_class layout) (opened f.marks))) f.fields (rest_due (behind_class layout) (class_read f.marks ins)) f₂.fields
     past_class = class.leads (behind_class layout) (opened f.marks) (none_barred f.marks f.few)
 
     pub either_refused : (result : Result Sheet Refused) (e : Refusal) → IsErrAnd result (λ r. r ≡ refused_sheet entries e)
-        → EitherMissed layout f₂.marks ins f₂ e → ReadsBy layout most_marks entries t (read_as result)
+        → EitherMissed layout f₂.marks ins f₂.fields e → ReadsBy layout most_marks entries t (read_as result)
     either_refused result e p w =
         stopped result e p
-        (then_stops past_class (either_missed layout f.marks ins f₂ e (subst (λ (m : ℕ). EitherMissed layout m ins f₂ e) class.marks w)))
+        (then_stops past_class (either_missed layout f.marks ins f₂.fields e (subst (λ (m : ℕ). EitherMissed layout m ins f₂.fields e) same₂ w)))
 
-    module _ (f₃ : Form) (either : List ℕ) (found : EitherFound layout f₂.marks ins f₂ f₃ either) where
-      got : EitherGot layout f.marks ins f₂ f₃ either
-      got = either_found layout f.marks ins f₂ f₃ either (subst (λ (m : ℕ). EitherFound layout m ins f₂ f₃ either) class.marks found)
+    module _ (f₃ : Form) (same₃ : f₃.marks ≡ f₂.marks) (either : List ℕ) (found : EitherFound layout f₂.marks ins f₂.fields f₃.fields either) where
+      got : EitherGot layout f.marks ins f₂.fields f₃.fields either
+      got =
+          either_found layout f.marks ins f₂.fields f₃.fields either
+          (subst (λ (m : ℕ). EitherFound layout m ins f₂.fields f₃.fields either) same₂ found)
 
-      same : f₃.marks ≡ f.marks
-      same = got.marks ∙ class.marks
-
-      past_either : Leads (due (count Class (behind_class layout) (opened f.marks))) f (due (count Held (behind_held layout) (standings_read f.marks ins either))) f₃
+      past_either : Leads (due (count Class (behind_class layout) (opened f.marks))) f.fields (due (count Held (behind_held layout) (standings_read f.marks ins either))) f₃.fields
       past_either = then past_class got.leads
 
       pub held_refused : (result : Result Sheet Refused) (e : Refusal) → IsErrAnd result (λ r. r ≡ refused_sheet entries e)
-          → Missed Held f₃.marks either (λ (rest : Rest) (q : Record). due (count Held rest q)) f₃ e → ReadsBy layout most_marks entries t (read_as result)
+          → Missed Held f₃.marks either (λ (rest : Rest) (q : Record). due (count Held rest q)) f₃.fields e → ReadsBy layout most_marks entries t (read_as result)
       held_refused result e p w =
-          let v = subst (λ (m : ℕ). Missed Held m either (λ (rest : Rest) (q : Record). due (count Held rest q)) f₃ e) same w in
+          let v = subst (λ (m : ℕ). Missed Held m either (λ (rest : Rest) (q : Record). due (count Held rest q)) f₃.fields e) (same₃ ∙ same₂) w in
           stopped result e p
           (then_stops past_either (v.stops (behind_held layout) (standings_read f.marks ins either) (before_held f.marks ins either)))
 
-      module _ (f₄ : Form) (times : List ℕ) (read : Got Held f₃.marks either (λ (rest : Rest) (q : Record). due (count Held rest q)) rest_due f₃ f₄ times) where
-        held : Got Held f.marks either (λ (rest : Rest) (q : Record). due (count Held rest q)) rest_due f₃ f₄ times
-        held = subst (λ (m : ℕ). Got Held m either (λ (rest : Rest) (q : Record). due (count Held rest q)) rest_due f₃ f₄ times) same read
+      module _ (f₄ : Form) (same₄ : f₄.marks ≡ f₃.marks) (times : List ℕ)
+          (read : Got Held f₃.marks either (λ (rest : Rest) (q : Record). due (count Held rest q)) rest_due f₃.fields f₄.fields times) where
+        held : Got Held f.marks either (λ (rest : Rest) (q : Record). due (count Held rest q)) rest_due f₃.fields f₄.fields times
+        held = subst (λ (m : ℕ). Got Held m either (λ (rest : Rest) (q : Record). due (count Held rest q)) rest_due f₃.fields f₄.fields times) (same₃ ∙ same₂) read
 
-        past_held : Leads (due (count Class (behind_class layout) (opened f.marks))) f (rest_due (behind_held layout) (held_read f.marks ins either times)) f₄
+        past_held : Leads (due (count Class (behind_class layout) (opened f.marks))) f.fields (rest_due (behind_held layout) (held_read f.marks ins either times)) f₄.fields
         past_held = then past_either (held.leads (behind_held layout) (standings_read f.marks ins either) (before_held f.marks ins either))
 
         pub end_refused : (result : Result Sheet Refused) (e : Refusal) → IsErrAnd result (λ r. r ≡ refused_sheet entries e)
-            → EndMissed layout f₄.marks either f₄ e → ReadsBy layout most_marks entries t (read_as result)
+            → EndMissed layout f₄.marks either f₄.fields e → ReadsBy layout most_marks entries t (read_as result)
         end_refused result e p w =
             stopped result e p
             (then_stops past_held
-            (end_missed f.marks ins either times layout f₄ e (subst (λ (m : ℕ). EndMissed layout m either f₄ e) (held.marks ∙ same) w)))
+            (end_missed f.marks ins either times layout f₄.fields e (subst (λ (m : ℕ). EndMissed layout m either f₄.fields e) (same₄ ∙ same₃ ∙ same₂) w)))
 
-        module _ (f₅ : Form) (p : Profile) (last : EndFound layout f₄.marks either f₄ f₅ p) where
-          past_profile : Leads (due (count Class (behind_class layout) (opened f.marks))) f (end (whole_record f.marks ins either times p)) f₅
+        module _ (f₅ : Form) (p : Profile) (last : EndFound layout f₄.marks either f₄.fields f₅.fields p) where
+          past_profile : Leads (due (count Class (behind_class layout) (opened f.marks))) f.fields (end (whole_record f.marks ins either times p)) f₅.fields
           past_profile =
               then past_held
-              (end_found f.marks ins either times layout f₄ f₅ p (subst (λ (m : ℕ). EndFound layout m either f₄ f₅ p) (held.marks ∙ same) last))
+              (end_found f.marks ins either times layout f₄.fields f₅.fields p
+              (subst (λ (m : ℕ). EndFound layout m either f₄.fields f₅.fields p) (same₄ ∙ same₃ ∙ same₂) last))
 
-          pub left_refused : 0 < length f₅.rest.now → (result : Result Sheet Refused) → IsErrAnd result (λ r. r ≡ refused_sheet entries (Unreadable (offset_of f₅)))
-              → ReadsBy layout most_marks entries t (read_as result)
+          pub left_refused : 0 < length f₅.fields.rest.now → (result : Result Sheet Refused)
+              → IsErrAnd result (λ r. r ≡ refused_sheet entries (Unreadable (offset_of f₅.fields))) → ReadsBy layout most_marks entries t (read_as result)
           left_refused some result q =
-              stopped result (Unreadable (offset_of f₅)) q (then_stops past_profile (left_over (whole_record f.marks ins either times p) f₅ some))
+              stopped result (Unreadable (offset_of f₅.fields)) q (then_stops past_profile (left_over (whole_record f.marks ins either times p) f₅.fields some))
 
-          module _ (none : length f₅.rest.now ≡ 0) where
+          module _ (none : length f₅.fields.rest.now ≡ 0) where
             whole_run : ReadingBy layout most_marks t (good (whole_record f.marks ins either times p))
             whole_run =
                 marks_taken layout b (good (whole_record f.marks ins either times p))
-                (past_profile.on (good (whole_record f.marks ins either times p)) (all_read (whole_record f.marks ins either times p) f₅ none))
+                (past_profile.on (good (whole_record f.marks ins either times p)) (all_read (whole_record f.marks ins either times p) f₅.fields none))
 
             module _ {outs : List ℕ} (third : Neither ins either outs) where
               pub all_addable : Bytes t → (f.marks ≤ most_marks) × Addable f.marks outs × Addable f.marks either × Addable f.marks times

@@ -33,9 +33,10 @@ use Rattle.stored.proofs.IsForm.{is-form}
 use Rattle.stored.proofs.Runs.{goes}
 use Rattle.stored.proofs.Numbers.{number_one}
 use Rattle.stored.proofs.Told.{refused_told}
-use Rattle.sections.specs.Places.{offset_of, Begun, NotBegun, empty, others}
-use Rattle.sections.specs.Parts.{Leads, Stops, with_own, ReadBefore}
-use Rattle.sections.specs.declared.fields.Form.{Form}
+use Rattle.sections.specs.Places.{offset_of}
+use Rattle.sections.specs.Parts.{Leads, Stops, with_own, ReadBefore, Begun, NotBegun, empty, others}
+use Rattle.sections.specs.declared.form.Form.{Form}
+use Rattle.sections.specs.declared.fields.Fields.{Fields}
 use Rattle.sections.proofs.Offsets.{start as at_start}
 use Rattle.sections.proofs.Own.{own_start}
 use Rattle.reading.specs.Parts.{NoneRead, EitherFound, EitherMissed, ProfileBefore, EndFound, EndMissed}
@@ -78,13 +79,13 @@ module _ (layout : Layout) {t : List ℕ} where
 
   -- behind marks that a sheet may have
   module _ {f : Form} (b : Begun t f) where
-    pub marks_taken : (o : Outcome) → Run most_marks (due (count Class (behind_class layout) (opened f.marks))) (offset_of f) f.rest.now o → ReadingBy layout most_marks t o
+    pub marks_taken : (o : Outcome) → Run most_marks (due (count Class (behind_class layout) (opened f.marks))) (offset_of f.fields) f.fields.rest.now o → ReadingBy layout most_marks t o
     unfolding judge
     marks_taken o r =
-        let at : offset_of f ≡ 1 = omega (arith, b.size, ap length b.bytes) in
+        let at : offset_of f.fields ≡ 1 = omega (arith, b.size, ap length b.bytes) in
         subst (λ (x : List ℕ). ReadingBy layout most_marks x o) (sym b.bytes)
-        (goes (marks (sections layout)) (f.marks ∷ f.rest.now) (due (count Class (behind_class layout) (opened f.marks))) (omega arith)
-        (rw (number_one f.marks f.rest.now, b.ok) (ap (λ (rest : Rest). rest_due rest (opened f.marks)) (class_first layout))) (rw (← at) r))
+        (goes (marks (sections layout)) (f.marks ∷ f.fields.rest.now) (due (count Class (behind_class layout) (opened f.marks))) (omega arith)
+        (rw (number_one f.marks f.fields.rest.now, b.ok) (ap (λ (rest : Rest). rest_due rest (opened f.marks)) (class_first layout))) (rw (← at) r))
 
 -- what was read up to the either section, up to the held one, up to the profile, and in all
 abbrev pub class_read : ℕ → List ℕ → Record
@@ -145,37 +146,35 @@ module _ (m : ℕ) (ins : List ℕ) where
   before_profile either times = record { plain = record { marks = refl; profile = refl }; told = either_told either }
 
 -- the either section, which 01's layout has not
-pub record EitherGot (layout : Layout) (m : ℕ) (ins : List ℕ) (f g : Form) (own : List ℕ) : Type 0 where
-  pub marks : g.marks ≡ f.marks
+pub record EitherGot (layout : Layout) (m : ℕ) (ins : List ℕ) (f g : Fields) (own : List ℕ) : Type 0 where
   pub long : 2 ^ m ≤ length own
   pub ones : (c : ℕ) → c < 2 ^ m → entry own c ≤ 1
   pub leads : Leads (rest_due (behind_class layout) (class_read m ins)) f (due (count Held (behind_held layout) (standings_read m ins own))) g
 
-pub none_found : {m : ℕ} {ins : List ℕ} {f g : Form} {own : List ℕ} → NoneRead m f g own → EitherGot First m ins f g own
+pub none_found : {m : ℕ} {ins : List ℕ} {f g : Fields} {own : List ℕ} → NoneRead m f g own → EitherGot First m ins f g own
 none_found {m} {ins} {f} {g} {own} x =
     let same : class_read m ins ≡ standings_read m ins own = sym (own_start (entry own) {r = class_read m ins} x.none Either (before_either m ins).none) in
     record {
-      marks = ap (λ (x : Form). x.marks) x.stays;
       long = x.long;
       ones = λ c l. omega (arith, x.none c l);
       leads = rw (x.stays, ← same) (at_start (rest_due (behind_class First) (class_read m ins)) f);
     }
 
-pub either_missed : (layout : Layout) (m : ℕ) (ins : List ℕ) (f : Form) (e : Refusal) → EitherMissed layout m ins f e → Stops (rest_due (behind_class layout) (class_read m ins)) f e
+pub either_missed : (layout : Layout) (m : ℕ) (ins : List ℕ) (f : Fields) (e : Refusal) → EitherMissed layout m ins f e → Stops (rest_due (behind_class layout) (class_read m ins)) f e
 either_missed First m ins f e x = absurd x
 either_missed Today m ins f e x = x.stops (more Held profile) (class_read m ins) (before_either m ins)
 
-pub either_found : (layout : Layout) (m : ℕ) (ins : List ℕ) (f g : Form) (own : List ℕ) → EitherFound layout m ins f g own → EitherGot layout m ins f g own
+pub either_found : (layout : Layout) (m : ℕ) (ins : List ℕ) (f g : Fields) (own : List ℕ) → EitherFound layout m ins f g own → EitherGot layout m ins f g own
 either_found First m ins f g own x = none_found x
-either_found Today m ins f g own x = record { marks = x.marks; long = x.long; ones = x.most; leads = x.leads (more Held profile) (class_read m ins) (before_either m ins) }
+either_found Today m ins f g own x = record { long = x.long; ones = x.most; leads = x.leads (more Held profile) (class_read m ins) (before_either m ins) }
 
 -- the profile, which 01's layout has not
 module _ (m : ℕ) (ins either times : List ℕ) where
-  pub end_missed : (layout : Layout) (f : Form) (e : Refusal) → EndMissed layout m either f e → Stops (rest_due (behind_held layout) (held_read m ins either times)) f e
+  pub end_missed : (layout : Layout) (f : Fields) (e : Refusal) → EndMissed layout m either f e → Stops (rest_due (behind_held layout) (held_read m ins either times)) f e
   end_missed First f e x = absurd x
   end_missed Today f e x = x.stops (held_read m ins either times) (before_profile m ins either times)
 
-  pub end_found : (layout : Layout) (f g : Form) (p : Profile) → EndFound layout m either f g p
+  pub end_found : (layout : Layout) (f g : Fields) (p : Profile) → EndFound layout m either f g p
       → Leads (rest_due (behind_held layout) (held_read m ins either times)) f (end (whole_record m ins either times p)) g
   end_found First f g p x = rw (x.0, x.1) (at_start (end (held_read m ins either times)) f)
   end_found Today f g p x = x.leads (held_read m ins either times) (before_profile m ins either times)

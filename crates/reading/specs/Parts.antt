@@ -13,33 +13,34 @@ use Rattle.stored.specs.declared.Section.TheVariants.{Either}
 use Rattle.stored.specs.declared.Layout.{Layout}
 use Rattle.stored.specs.declared.Layout.TheVariants.{First, Today}
 use Rattle.sections.specs.Parts.{Leads, Stops, Got, Missed}
-use Rattle.sections.specs.declared.fields.Form.{Form}
+use Rattle.sections.specs.declared.form.Form.{Form}
+use Rattle.sections.specs.declared.fields.Fields.{Fields}
 
 -- nothing is read, and no combination is either
-pub record NoneRead (m : ℕ) (f g : Form) (own : List ℕ) : Type 0 where
+pub record NoneRead (m : ℕ) (f g : Fields) (own : List ℕ) : Type 0 where
   pub stays : g ≡ f
   pub none : (c : ℕ) → c < 2 ^ m → entry own c ≡ 0
   pub long : 2 ^ m ≤ length own
 
 -- the either section behind a class of these combinations; 01's layout has none
-abbrev pub EitherFound : Layout → ℕ → List ℕ → Form → Form → List ℕ → Type 0
+abbrev pub EitherFound : Layout → ℕ → List ℕ → Fields → Fields → List ℕ → Type 0
 EitherFound First m ins f g own = NoneRead m f g own
 EitherFound Today m ins f g own = Got Either m ins (λ (rest : Rest) (r : Record). due (count Either rest r)) rest_due f g own
 
-abbrev pub EitherMissed : Layout → ℕ → List ℕ → Form → Refusal → Type 0
+abbrev pub EitherMissed : Layout → ℕ → List ℕ → Fields → Refusal → Type 0
 EitherMissed First m ins f e = ⊥
 EitherMissed Today m ins f e = Missed Either m ins (λ (rest : Rest) (r : Record). due (count Either rest r)) f e
 
 abbrev pub EitherRead : Layout → List ℕ → Form → Form → Result (List ℕ) Refusal → Type 0
-EitherRead layout ins f g result = MatchResult result (λ own. EitherFound layout f.marks ins f g own) (λ e. EitherMissed layout f.marks ins f e)
+EitherRead layout ins f g result =
+    MatchResult result (λ own. (g.marks ≡ f.marks) × EitherFound layout f.marks ins f.fields g.fields own) (λ e. EitherMissed layout f.marks ins f.fields e)
 
 -- Some groups that were read: the run leads from one field to another, whatever record R was read before them; they make its profile.
-pub record Carried (R : Record → Type 0) (from to : Record → Next) (f g : Form) (p : Profile) : Type 0 where
-  pub marks : g.marks ≡ f.marks
+pub record Carried (R : Record → Type 0) (from to : Record → Next) (f g : Fields) (p : Profile) : Type 0 where
   pub leads : (r : Record) → R r → Leads (from r) f (to (with_profile p r)) g
 
 -- some that are refused
-pub record Dropped (R : Record → Type 0) (from : Record → Next) (f : Form) (e : Refusal) : Type 0 where
+pub record Dropped (R : Record → Type 0) (from : Record → Next) (f : Fields) (e : Refusal) : Type 0 where
   pub stops : (r : Record) → R r → Stops (from r) f e
 
 -- a record of m marks with a profile
@@ -51,14 +52,14 @@ pub record With (m : ℕ) (p : Profile) (r : Record) : Type 0 where
 abbrev pub GroupRead : Profile → Form → Form → Result Profile Refusal → Type 0
 GroupRead p f g result =
     MatchResult result
-    (λ q. (start left : ℕ) → Carried (With f.marks p) (λ (r : Record). due (group r start left)) (λ (r : Record). groups_due r start left) f g q)
-    (λ e. (start left : ℕ) → Dropped (With f.marks p) (λ (r : Record). due (group r start left)) f e)
+    (λ q. (g.marks ≡ f.marks) × ((start left : ℕ) → Carried (With f.marks p) (λ (r : Record). due (group r start left)) (λ (r : Record). groups_due r start left) f.fields g.fields q))
+    (λ e. (start left : ℕ) → Dropped (With f.marks p) (λ (r : Record). due (group r start left)) f.fields e)
 
 abbrev pub GroupsRead : ℕ → Form → Form → Result Profile Refusal → Type 0
 GroupsRead n f g result =
     MatchResult result
-    (λ q. (start : ℕ) → Carried (With f.marks None) (λ (r : Record). groups_due r start n) (λ (r : Record). complete r start) f g q)
-    (λ e. (start : ℕ) → Dropped (With f.marks None) (λ (r : Record). groups_due r start n) f e)
+    (λ q. (g.marks ≡ f.marks) × ((start : ℕ) → Carried (With f.marks None) (λ (r : Record). groups_due r start n) (λ (r : Record). complete r start) f.fields g.fields q))
+    (λ e. (start : ℕ) → Dropped (With f.marks None) (λ (r : Record). groups_due r start n) f.fields e)
 
 -- each combination that breaks a profile has a number other than 0
 abbrev pub Covered : ℕ → Profile → List ℕ → Type 0
@@ -72,16 +73,16 @@ pub record ProfileBefore (m : ℕ) (eithers : List ℕ) (r : Record) : Type 0 wh
 -- a profile, or none
 abbrev pub ProfileRead : List ℕ → Form → Form → Result Profile Refusal → Type 0
 ProfileRead eithers f g result =
-    MatchResult result (λ p. Carried (ProfileBefore f.marks eithers) perhaps end f g p) (λ e. Dropped (ProfileBefore f.marks eithers) perhaps f e)
+    MatchResult result (λ p. Carried (ProfileBefore f.marks eithers) perhaps end f.fields g.fields p) (λ e. Dropped (ProfileBefore f.marks eithers) perhaps f.fields e)
 
 -- behind all sections; 01's layout has no profile
-abbrev pub EndFound : Layout → ℕ → List ℕ → Form → Form → Profile → Type 0
+abbrev pub EndFound : Layout → ℕ → List ℕ → Fields → Fields → Profile → Type 0
 EndFound First m eithers f g p = (g ≡ f) × (p ≡ None)
 EndFound Today m eithers f g p = Carried (ProfileBefore m eithers) perhaps end f g p
 
-abbrev pub EndMissed : Layout → ℕ → List ℕ → Form → Refusal → Type 0
+abbrev pub EndMissed : Layout → ℕ → List ℕ → Fields → Refusal → Type 0
 EndMissed First m eithers f e = ⊥
 EndMissed Today m eithers f e = Dropped (ProfileBefore m eithers) perhaps f e
 
 abbrev pub EndRead : Layout → List ℕ → Form → Form → Result Profile Refusal → Type 0
-EndRead layout eithers f g result = MatchResult result (λ p. EndFound layout f.marks eithers f g p) (λ e. EndMissed layout f.marks eithers f e)
+EndRead layout eithers f g result = MatchResult result (λ p. EndFound layout f.marks eithers f.fields g.fields p) (λ e. EndMissed layout f.marks eithers f.fields e)

@@ -6,14 +6,14 @@ ghost use Rattle.reading.specs.Parts.{GroupRead, GroupsRead, Covered, ProfileRea
 
 use profiles::Profile;
 use refusals::Refusal;
-use sections::fields::Form;
+use sections::Form;
 
 // The profile with the group that comes next.
 fn read_group(form: &mut Form<'_>, profile: Profile) -> Result<Profile, Refusal>
     ensures { GroupRead profile form.old form.new result }
 {
-    let place = form.place();
-    let group = form.field(1, 0, 255)?;
+    let place = form.fields.place();
+    let group = form.fields.field(1, 0, 255)?;
     if !profile.may_follow(form.marks, group) {
         return Err(Refusal::Unreadable(place));
     }
@@ -49,11 +49,11 @@ fn obeyed(m: usize, profile: Profile, eithers: &[u32; 32]) -> bool
 pub fn read(form: &mut Form<'_>, eithers: &[u32; 32]) -> Result<Profile, Refusal>
     ensures { ProfileRead eithers.now form.old form.new result }
 {
-    if form.rest.is_empty() {
+    if form.fields.rest.is_empty() {
         return Ok(Profile::None);
     }
-    let place = form.place();
-    let count = form.field(2, 1, 2)?;
+    let place = form.fields.place();
+    let count = form.fields.field(2, 1, 2)?;
     let profile = read_groups(form, count)?;
     if !obeyed(form.marks, profile, eithers) {
         return Err(Refusal::Unreadable(place));

@@ -11,7 +11,7 @@ mod groups;
 
 use profiles::Profile;
 use refusals::Refusal;
-use sections::fields::Form;
+use sections::Form;
 use sheet::{Refused, Sheet};
 use stored::{Layout, Section};
 
@@ -34,7 +34,7 @@ fn profile_part(
 ) -> Result<Profile, Refusal>
     ensures { EndRead layout eithers.now form.old form.new result }
 {
-    // One thing to read for each layout, as above.
+    // Each layout has one thing to read here too, so a closure would be called in this place alone.
     match layout {
         Layout::First => Ok(Profile::None),
         Layout::Today => groups::read(form, eithers),
@@ -51,8 +51,8 @@ fn read_by(bytes: &[u8], layout: Layout) -> Result<Sheet, Refused>
     let eithers = either_part(&mut form, &ins, layout)?;
     let times = sections::read(&mut form, Section::Held, &eithers)?;
     let profile = profile_part(&mut form, &eithers, layout)?;
-    if !form.rest.is_empty() {
-        return Err(Refusal::Unreadable(form.place()).into());
+    if !form.fields.rest.is_empty() {
+        return Err(Refusal::Unreadable(form.fields.place()).into());
     }
     let outs = stored::neither(&ins, &eithers);
     Ok(Sheet::afresh(m, profile, &outs, &eithers, &times))

@@ -48,7 +48,7 @@ never_done e z = omega (arith, numbered e)
 
 -- every number but 10 settles the refusal alone
 
-no_place : (e : Refusal) → (number_of e ≡ 10 → ⊥) → place_of e ≡ 0
+pub no_place : (e : Refusal) → (number_of e ≡ 10 → ⊥) → place_of e ≡ 0
 no_place Marks n = refl
 no_place Combination n = refl
 no_place Standing n = refl

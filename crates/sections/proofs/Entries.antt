@@ -22,7 +22,8 @@ use Rattle.stored.specs.declared.Section.{Section}
 use Rattle.stored.proofs.Sections.{held_more}
 use Rattle.sections.specs.Places.{offset_of, Fits, Faulty}
 use Rattle.sections.specs.Parts.{Leads, Stops, least, has_in, with_own, ReadBefore, Got, Missed, PartRead}
-use Rattle.sections.specs.declared.fields.Form.{Form}
+use Rattle.sections.specs.declared.form.Form.{Form}
+use Rattle.sections.specs.declared.fields.Fields.{Fields}
 use Rattle.sections.proofs.Offsets.{start as at_start, then, then_stops, field_taken, field_missed, field_barred}
 use Rattle.sections.proofs.Own.{own_marks, own_start, set_here, set_other, own_added, own_none, own_takes, may_stand-true, may_not, own_most}
 
@@ -40,12 +41,12 @@ module _ {m : ℕ} (s : Section) (rest : Rest) (r : Record) (em : r.marks ≡ m)
   same_size : 2 ^ r.marks ≡ 2 ^ m
   same_size = ap (λ (x : ℕ). 2 ^ x) em
 
-  pub count_taken : {f g : Form} {n : ℕ} → Fits f 2 0 (2 ^ m) g n → Leads (due (count s rest r)) f (entries_due s rest r n 0) g
+  pub count_taken : {f g : Fields} {n : ℕ} → Fits f 2 0 (2 ^ m) g n → Leads (due (count s rest r)) f (entries_due s rest r n 0) g
   unfolding judge
   count_taken {f = f} {n = n} v =
       field_taken (count s rest r) refl f v (entries_due s rest r n 0) (rw (le-leb n (2 ^ r.marks) (omega (arith, same_size, v.most))))
 
-  pub count_missed : {f : Form} {e : Refusal} → Faulty f 2 0 (2 ^ m) e → Stops (due (count s rest r)) f e
+  pub count_missed : {f : Fields} {e : Refusal} → Faulty f 2 0 (2 ^ m) e → Stops (due (count s rest r)) f e
   unfolding judge
   count_missed {f = f} v =
       field_missed (count s rest r) refl f v
@@ -56,7 +57,7 @@ module _ {m : ℕ} (s : Section) (rest : Rest) (r : Record) (left : ℕ) (some :
   top : (2 ^ r.marks ≡ 2 ^ m) × (1 ≤ 2 ^ m)
   top = (ap (λ (x : ℕ). 2 ^ x) em, one-le-pow m 2 (omega arith))
 
-  module _ {f g : Form} {low c : ℕ} (v : Fits f 1 low (2 ^ m - 1) g c) where
+  module _ {f g : Fields} {low c : ℕ} (v : Fits f 1 low (2 ^ m - 1) g c) where
     inside : c < 2 ^ r.marks
     inside = omega (arith, v.most, top.0, top.1)
 
@@ -73,7 +74,7 @@ module _ {m : ℕ} (s : Section) (rest : Rest) (r : Record) (left : ℕ) (some :
         rw (entries_some s rest r left low some)
         (field_barred (combination s rest r (left - 1) low) refl f v (rw (le-leb low c v.least, lt-ltb c (2 ^ r.marks) inside, bar)))
 
-  pub combination_missed : {f : Form} {low : ℕ} {e : Refusal} → Faulty f 1 low (2 ^ m - 1) e → Stops (entries_due s rest r left low) f e
+  pub combination_missed : {f : Fields} {low : ℕ} {e : Refusal} → Faulty f 1 low (2 ^ m - 1) e → Stops (entries_due s rest r left low) f e
   unfolding judge
   combination_missed {f = f} {low = low} v =
       let e = top in
@@ -83,8 +84,8 @@ module _ {m : ℕ} (s : Section) (rest : Rest) (r : Record) (left : ℕ) (some :
       (λ q. below_or x (2 ^ r.marks) (λ p. absurd (n q (omega arith))) (λ p. rw (le-leb low x q, le-ltb x (2 ^ r.marks) p)))))
 
 -- the number behind it
-module _ {f : Form} {sum : ℕ} (s : Section) (rest : Rest) (r : Record) (left c : ℕ) (h : sum ≤ most_held) (es : held_in r ≡ sum) where
-  pub behind_taken : {g : Form} {x : ℕ} → Fits f (bytes_behind s) (least s) (most_held - sum) g x
+module _ {f : Fields} {sum : ℕ} (s : Section) (rest : Rest) (r : Record) (left c : ℕ) (h : sum ≤ most_held) (es : held_in r ≡ sum) where
+  pub behind_taken : {g : Fields} {x : ℕ} → Fits f (bytes_behind s) (least s) (most_held - sum) g x
       → Leads (due (behind s rest r left c)) f (entries_due s rest (added s r c x) left (c + 1)) g
   unfolding judge
   behind_taken {x = x} v =
@@ -96,7 +97,7 @@ module _ {f : Form} {sum : ℕ} (s : Section) (rest : Rest) (r : Record) (left c
   behind_missed v = field_missed (behind s rest r left c) refl f v (λ x small n. rw (es, may_not s sum x h small n))
 
 -- What the loop keeps: it stands at the combinations from `low` on, `left` of them, with `sum` seconds so far.
-pub record EntriesReached (s : Section) (m : ℕ) (barred : List ℕ) (n : ℕ) (f g : Form) (own : List ℕ) (low left sum : ℕ) : Type 0 where
+pub record EntriesReached (s : Section) (m : ℕ) (barred : List ℕ) (n : ℕ) (f g : Fields) (own : List ℕ) (low left sum : ℕ) : Type 0 where
   pub got : Got s m barred (λ (rest : Rest) (r : Record). entries_due s rest r n 0) (λ (rest : Rest) (r : Record). entries_due s rest r left low) f g own
   pub clear : (c : ℕ) → low ≤ c → c < 2 ^ m → entry own c ≡ 0
   pub sum_is : (r : Record) → ReadBefore s m barred r → held_in (with_own s (entry own) r) ≡ sum
@@ -107,10 +108,9 @@ module _ (s : Section) (m : ℕ) (barred : List ℕ) (own : List ℕ) (clear : (
   as_before : (r : Record) → ReadBefore s m barred r → with_own s (entry own) r ≡ r
   as_before r b = own_start (entry own) {r = r} (λ c l. clear c (omega (arith, ap (λ (x : ℕ). 2 ^ x) b.marks))) s b.none
 
-  pub reached_none : (n : ℕ) (f : Form) → 2 ^ m ≤ length own → EntriesReached s m barred n f f own 0 n 0
+  pub reached_none : (n : ℕ) (f : Fields) → 2 ^ m ≤ length own → EntriesReached s m barred n f f own 0 n 0
   reached_none n f long = record {
     got = record {
-      marks = refl;
       long = long;
       most = λ c l. omega (arith, clear c l);
       leads = λ rest r b. subst (λ (q : Record). Leads (entries_due s rest r n 0) f (entries_due s rest q n 0) f) (sym (as_before r b)) (at_start (entries_due s rest r n 0) f);
@@ -120,10 +120,9 @@ module _ (s : Section) (m : ℕ) (barred : List ℕ) (own : List ℕ) (clear : (
     sum_most = omega arith;
   }
 
-module _ {s : Section} {m : ℕ} {barred : List ℕ} {n : ℕ} {f g : Form} {own : List ℕ} {low left sum : ℕ} (v : EntriesReached s m barred n f g own low left sum) where
+module _ {s : Section} {m : ℕ} {barred : List ℕ} {n : ℕ} {f g : Fields} {own : List ℕ} {low left sum : ℕ} (v : EntriesReached s m barred n f g own low left sum) where
   pub reached_end : left ≡ 0 → Got s m barred (λ (rest : Rest) (r : Record). entries_due s rest r n 0) rest_due f g own
   reached_end e = record {
-    marks = v.got.marks;
     long = v.got.long;
     most = v.got.most;
     leads = λ rest r b.
@@ -137,7 +136,7 @@ module _ {s : Section} {m : ℕ} {barred : List ℕ} {n : ℕ} {f g : Form} {own
       stops = λ rest r b. then_stops (v.got.leads rest r b) (combination_missed s rest (with_own s (entry own) r) left some (own_marks s (entry own) r ∙ b.marks) w);
     }
 
-    module _ {h : Form} {c : ℕ} (read : Fits g 1 low (2 ^ m - 1) h c) where
+    module _ {h : Fields} {c : ℕ} (read : Fits g 1 low (2 ^ m - 1) h c) where
       c_m : c < 2 ^ m
       c_m = omega (arith, read.most, one-le-pow m 2 (omega arith))
 
@@ -167,7 +166,7 @@ module _ {s : Section} {m : ℕ} {barred : List ℕ} {n : ℕ} {f g : Form} {own
               then_stops (to_behind rest r b) (behind_missed s rest (with_own s (entry own) r) (left - 1) c v.sum_most (v.sum_is r b) w);
         }
 
-        pub reached_more : {i : Form} {x : ℕ} → Fits h (bytes_behind s) (least s) (most_held - sum) i x
+        pub reached_more : {i : Fields} {x : ℕ} → Fits h (bytes_behind s) (least s) (most_held - sum) i x
             → EntriesReached s m barred n f i (set own c (has_in s x)) (c + 1) (left - 1) (sum + x)
         reached_more {i} {x} w =
             let y = has_in s x in
@@ -178,7 +177,6 @@ module _ {s : Section} {m : ℕ} {barred : List ℕ} {n : ℕ} {f g : Form} {own
             λ r b. own_added own c x c_own s r (omega (arith, c_m, ap (λ (j : ℕ). 2 ^ j) b.marks)) in
             record {
               got = record {
-                marks = w.marks ∙ read.marks ∙ v.got.marks;
                 long = omega (arith, length-set own c y, v.got.long);
                 most = λ z l. same_or z c
                     (λ q. omega (arith, ap (entry (set own c y)) q, set_here own c y c_own, most))
@@ -198,13 +196,13 @@ module _ {s : Section} {m : ℕ} {barred : List ℕ} {n : ℕ} {f g : Form} {own
 
 -- a part behind what leads to it
 module _ (s : Section) (barred : List ℕ) {from from₁ : Rest → Record → Next} (f f₁ : Form) (same : f₁.marks ≡ f.marks)
-    (l : (rest : Rest) (r : Record) → ReadBefore s f.marks barred r → Leads (from rest r) f (from₁ rest r) f₁) where
-  got_after : (g : Form) (own : List ℕ) → Got s f.marks barred from₁ rest_due f₁ g own → Got s f.marks barred from rest_due f g own
-  got_after g own v = record { marks = v.marks ∙ same; long = v.long; most = v.most; leads = λ rest r b. then (l rest r b) (v.leads rest r b) }
+    (l : (rest : Rest) (r : Record) → ReadBefore s f.marks barred r → Leads (from rest r) f.fields (from₁ rest r) f₁.fields) where
+  got_after : (g : Form) (own : List ℕ) → Got s f.marks barred from₁ rest_due f₁.fields g.fields own → Got s f.marks barred from rest_due f.fields g.fields own
+  got_after g own v = record { long = v.long; most = v.most; leads = λ rest r b. then (l rest r b) (v.leads rest r b) }
 
-  missed_after : (e : Refusal) → Missed s f.marks barred from₁ f₁ e → Missed s f.marks barred from f e
+  missed_after : (e : Refusal) → Missed s f.marks barred from₁ f₁.fields e → Missed s f.marks barred from f.fields e
   missed_after e v = record { stops = λ rest r b. then_stops (l rest r b) (v.stops rest r b) }
 
-  pub part_after : (g : Form) (result : Result (List ℕ) Refusal) → PartRead s f₁.marks barred from₁ f₁ g result → PartRead s f.marks barred from f g result
-  part_after g (Ok own) v = got_after g own (subst (λ (m : ℕ). Got s m barred from₁ rest_due f₁ g own) same v)
-  part_after g (Err e) v = missed_after e (subst (λ (m : ℕ). Missed s m barred from₁ f₁ e) same v)
+  pub part_after : (g : Form) (result : Result (List ℕ) Refusal) → PartRead s barred from₁ f₁ g result → PartRead s barred from f g result
+  part_after g (Ok own) v = (v.0 ∙ same, got_after g own (subst (λ (m : ℕ). Got s m barred from₁ rest_due f₁.fields g.fields own) same v.1))
+  part_after g (Err e) v = missed_after e (subst (λ (m : ℕ). Missed s m barred from₁ f₁.fields e) same v)

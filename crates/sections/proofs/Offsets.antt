@@ -11,7 +11,7 @@ use Rattle.stored.specs.Fields.{number_in, Due, width, Next, due, end, wrong, ju
 use Rattle.stored.proofs.Runs.{goes}
 use Rattle.sections.specs.Parts.{Leads, Stops}
 use Rattle.sections.specs.Places.{offset_of, number_at, Fits, Faulty, early as field_early, wrong as field_wrong}
-use Rattle.sections.specs.declared.fields.Form.{Form}
+use Rattle.sections.specs.declared.fields.Fields.{Fields}
 
 -- the number of some bytes
 
@@ -32,22 +32,22 @@ number_more (b ∷ l) low behind h e q =
 
 -- runs
 
-pub start : (s : Next) (f : Form) → Leads s f s f
+pub start : (s : Next) (f : Fields) → Leads s f s f
 start s f = record { on = λ o r. r }
 
-pub then : {s u v : Next} {f g h : Form} → Leads s f u g → Leads u g v h → Leads s f v h
+pub then : {s u v : Next} {f g h : Fields} → Leads s f u g → Leads u g v h → Leads s f v h
 then x y = record { on = λ o r. x.on o (y.on o r) }
 
-pub then_stops : {s u : Next} {f g : Form} {e : Refusal} → Leads s f u g → Stops u g e → Stops s f e
+pub then_stops : {s u : Next} {f g : Fields} {e : Refusal} → Leads s f u g → Stops u g e → Stops s f e
 then_stops x y = record { run = x.on _ y.run }
 
 -- A field that was read, d being due: its number is judged good if it is `low` to `high`, and what is due behind it goes on at the cursor g.
-module _ (d : Due) {k : ℕ} (wide : width d ≡ k) (f : Form) where
+module _ (d : Due) {k : ℕ} (wide : width d ≡ k) (f : Fields) where
   judged_at : (x : ℕ) (u : Next) → x ≡ number_at f k → judge most_marks d x ≡ u → judge most_marks d (number_in (take (width d) f.rest.now)) ≡ u
   judged_at x u e j = rw (wide, ← e) j
 
   module _ {low high : ℕ} where
-    pub field_taken : {g : Form} {n : ℕ} → Fits f k low high g n → (u : Next) → judge most_marks d n ≡ u → Leads (due d) f u g
+    pub field_taken : {g : Fields} {n : ℕ} → Fits f k low high g n → (u : Next) → judge most_marks d n ≡ u → Leads (due d) f u g
     field_taken {g} {n} v u judged = record {
       on = λ o r.
           let place : offset_of g ≡ offset_of f + width d = omega (arith, f.within, g.within, v.inside, v.size, ap length v.rest, length-drop k f.rest.now, wide) in
@@ -65,11 +65,11 @@ module _ (d : Due) {k : ℕ} (wide : width d ≡ k) (f : Form) where
         record { run = faulty (omega (arith, h, wide)) (judged_at (number_at f k) (wrong 10) refl (judged (number_at f k) small w)) }
 
     -- a number within the limits, and wrong all the same
-    pub field_barred : {g : Form} {n : ℕ} → Fits f k low high g n → judge most_marks d n ≡ wrong 10 → Stops (due d) f (Unreadable (offset_of f))
+    pub field_barred : {g : Fields} {n : ℕ} → Fits f k low high g n → judge most_marks d n ≡ wrong 10 → Stops (due d) f (Unreadable (offset_of f))
     field_barred {g} {n} v judged = record { run = faulty (omega (arith, v.inside, wide)) (judged_at n (wrong 10) v.number judged) }
 
 -- where all is read
-module _ (r : Record) (f : Form) where
+module _ (r : Record) (f : Fields) where
   pub left_over : 0 < length f.rest.now → Stops (end r) f (Unreadable (offset_of f))
   left_over h = record { run = more_left f.rest.now h }
     where

@@ -1,18 +1,14 @@
 // The fields of a form, one behind the other.
 ghost use Rattle.std.specs.Prelude.{◌≡◌, ◌^◌, ◌≤◌, ◌<◌, length, OnErr};
-ghost use Rattle.sheet.specs.Limits.{most_marks};
 ghost use Rattle.stored.specs.Fields.{number_in};
 
 use refusals::Refusal;
 
-// What is left of a stored form of so many marks and so many bytes; the forms of `times` are others. The size is that of all the form: places count
-// from its beginning, which `rest` does not tell.
+// What is left of a form of so many bytes, field by field. The size is that of all the form: places count from its beginning, which `rest` does not tell.
 #[derive(Clone, Copy)]
-pub struct Form<'a> {
-    pub marks: usize,
+pub struct Fields<'a> {
     pub size: usize,
     pub rest: &'a [u8],
-    ghost few: { marks ≤ most_marks },
     ghost within: { length rest.now ≤ size },
 }
 
@@ -28,26 +24,8 @@ fn number_in(bytes: &[u8]) -> usize
     }
 }
 
-impl<'a> Form<'a> {
-    ghost use Rattle.sections.specs.Places.{offset_of, MarksRead, FieldRead};
-
-    // The form behind its marks, which are the first byte; an error is that there is none, or that no sheet may have so many.
-    pub fn open(bytes: &'a [u8]) -> Result<Form<'a>, Refusal>
-        ensures { MarksRead bytes.now result }
-    {
-        let [marks, rest @ ..] = bytes else {
-            return Err(Refusal::Unreadable(0));
-        };
-        let marks = usize::from(*marks);
-        if !sheet::marks_ok(marks) {
-            return Err(Refusal::Marks);
-        }
-        Ok(Form {
-            marks,
-            size: bytes.len(),
-            rest,
-        })
-    }
+impl<'a> Fields<'a> {
+    ghost use Rattle.sections.specs.Places.{offset_of, FieldRead};
 
     // The place where the next field stands.
     pub fn place(&self) -> usize

@@ -5,8 +5,9 @@ ghost use Rattle.std.specs.Prelude.{◌≡◌};
 ghost use Rattle.sections.specs.Parts.{least, has_in, EntriesRead, SectionRead};
 
 pub mod fields;
+mod form;
 
-use fields::Form;
+pub use form::Form;
 use refusals::Refusal;
 use sheet::Sheet;
 use stored::Section;
@@ -48,13 +49,13 @@ fn read_entries(
     let mut low: usize = 0;
     let mut sum: usize = 0;
     for _ in 0..n {
-        let place = form.place();
-        let c = form.field(1, low, top)?;
+        let place = form.fields.place();
+        let c = form.fields.field(1, low, top)?;
         if barred[c] != 0 {
             return Err(Refusal::Unreadable(place));
         }
         let most = Sheet::MOST_HELD as usize - sum;
-        let behind = form.field(section.bytes_behind(), few, most)?;
+        let behind = form.fields.field(section.bytes_behind(), few, most)?;
         own[c] = has_in(section, behind as u32);
         sum += behind;
         low = c + 1;
@@ -66,6 +67,6 @@ fn read_entries(
 pub fn read(form: &mut Form<'_>, section: Section, barred: &[u32; 32]) -> Result<[u32; 32], Refusal>
     ensures { SectionRead section barred.now form.old form.new result }
 {
-    let count = form.field(2, 0, boxes::power2(form.marks))?;
+    let count = form.fields.field(2, 0, boxes::power2(form.marks))?;
     read_entries(form, count, section, barred)
 }

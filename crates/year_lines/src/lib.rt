@@ -69,7 +69,7 @@ pub fn year_of(line: &Line) -> Option<usize>
     read_year(text)
 }
 
-// What the line at hand asks for behind line 2; one that is too long or cut off is unreadable.
+// What the line at hand asks for behind line 2; one that is too long or cut off is unreadable. A generic function for this and `lines::order_of` would be no shorter.
 pub fn slip_of(line: &Line, m: usize) -> Slip
     requires { m ≤ 8 }
     ensures { RowAsks m (row_of (told line.now)) result }

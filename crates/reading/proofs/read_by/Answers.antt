@@ -15,30 +15,30 @@ returns-in_err-ins c =
 
 pub returns-in_err-eithers : goal.returns-in_err-eithers
 returns-in_err-eithers c =
-    either_refused c.args.layout c.in_ok-form.ensures c.in_ok-ins.ensures c.from_residual-in_err-eithers.result _ c.from_residual-in_err-eithers.ensures.1
+    either_refused c.args.layout c.in_ok-form.ensures c.read.new.form c.in_ok-ins.ensures.0 c.in_ok-ins.ensures.1 c.from_residual-in_err-eithers.result _ c.from_residual-in_err-eithers.ensures.1
     c.in_err-eithers.ensures
 
 pub returns-in_err-times : goal.returns-in_err-times
 returns-in_err-times c =
-    held_refused c.args.layout c.in_ok-form.ensures c.in_ok-ins.ensures _ _ c.in_ok-eithers.ensures
+    held_refused c.args.layout c.in_ok-form.ensures c.read.new.form c.in_ok-ins.ensures.0 c.in_ok-ins.ensures.1 c.either_part.new.form c.in_ok-eithers.ensures.0 _ c.in_ok-eithers.ensures.1
     c.from_residual-in_err-times.result _ c.from_residual-in_err-times.ensures.1 c.in_err-times.ensures
 
 pub returns-in_err-profile : goal.returns-in_err-profile
 returns-in_err-profile c =
-    end_refused c.args.layout c.in_ok-form.ensures c.in_ok-ins.ensures _ _ c.in_ok-eithers.ensures _ _ c.in_ok-times.ensures
+    end_refused c.args.layout c.in_ok-form.ensures c.read.new.form c.in_ok-ins.ensures.0 c.in_ok-ins.ensures.1 c.either_part.new.form c.in_ok-eithers.ensures.0 _ c.in_ok-eithers.ensures.1 c.read-2.new.form c.in_ok-times.ensures.0 _ c.in_ok-times.ensures.1
     c.from_residual-in_err-profile.result _ c.from_residual-in_err-profile.ensures.1 c.in_err-profile.ensures
 
 pub returns-then-not-is_empty : goal.returns-then-not-is_empty
 returns-then-not-is_empty c =
-    left_refused c.args.layout c.in_ok-form.ensures c.in_ok-ins.ensures _ _ c.in_ok-eithers.ensures _ _ c.in_ok-times.ensures _ _ c.in_ok-profile.ensures (search rules)
+    left_refused c.args.layout c.in_ok-form.ensures c.read.new.form c.in_ok-ins.ensures.0 c.in_ok-ins.ensures.1 c.either_part.new.form c.in_ok-eithers.ensures.0 _ c.in_ok-eithers.ensures.1 c.read-2.new.form c.in_ok-times.ensures.0 _ c.in_ok-times.ensures.1 c.profile_part.new.form _ c.in_ok-profile.ensures (search rules)
     (Err c.into.result) (rw (← c.place.ensures) c.into.ensures)
 
 pub afresh-requires : goal.afresh-requires
 afresh-requires c =
-    all_addable c.args.layout c.in_ok-form.ensures c.in_ok-ins.ensures _ _ c.in_ok-eithers.ensures _ _ c.in_ok-times.ensures _ _ c.in_ok-profile.ensures
+    all_addable c.args.layout c.in_ok-form.ensures c.read.new.form c.in_ok-ins.ensures.0 c.in_ok-ins.ensures.1 c.either_part.new.form c.in_ok-eithers.ensures.0 _ c.in_ok-eithers.ensures.1 c.read-2.new.form c.in_ok-times.ensures.0 _ c.in_ok-times.ensures.1 c.profile_part.new.form _ c.in_ok-profile.ensures
     (search rules) c.neither-outs.ensures (λ i. omega (arith, c.type_inv.bytes i))
 
 pub returns : goal.returns
 returns c =
-    whole_read c.args.layout c.in_ok-form.ensures c.in_ok-ins.ensures _ _ c.in_ok-eithers.ensures _ _ c.in_ok-times.ensures _ _ c.in_ok-profile.ensures
+    whole_read c.args.layout c.in_ok-form.ensures c.read.new.form c.in_ok-ins.ensures.0 c.in_ok-ins.ensures.1 c.either_part.new.form c.in_ok-eithers.ensures.0 _ c.in_ok-eithers.ensures.1 c.read-2.new.form c.in_ok-times.ensures.0 _ c.in_ok-times.ensures.1 c.profile_part.new.form _ c.in_ok-profile.ensures
     (search rules) c.neither-outs.ensures c.afresh.ensures

@@ -1,14 +1,10 @@
 -- What opening gives is sound, and is written.
-use mathlib.Core.Path.{sym, subst}
-use Rattle.sheet.specs.Limits.{most_marks}
-use Rattle.sheet.specs.Sound.{Ready}
-use Rattle.sheet.specs.Told.{Answer}
 use Rattle.sheet.proofs.Opened.{open_ready}
-use Rattle.lent.proofs.Replies.{put_as}
+use Rattle.lent.proofs.Replies.{opened_put, opened_ready, open_no_ten}
 use Rattle.vault.proofs.vault_open.Goals as goal
 
-pub put-requires : goal.put-requires
-put-requires c = subst (λ (a : Answer). Ready most_marks a.sheet) (sym c.«open».ensures) (open_ready c.args.marks)
+pub written-requires : goal.written-requires
+written-requires c = opened_ready c.«open».result _ c.«open».ensures (open_ready c.args.marks)
 
 pub returns : goal.returns
-returns c = put_as _ c.«open».ensures c.put.ensures
+returns c = rw c.into.ensures (opened_put c.«open».result _ c.«open».ensures (open_no_ten c.args.marks) c.written.ensures)

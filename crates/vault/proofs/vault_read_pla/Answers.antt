@@ -5,8 +5,8 @@ use Rattle.pla.proofs.Sound.{reads_pla_sound}
 use Rattle.lent.proofs.Replies.{changes_read}
 use Rattle.vault.proofs.vault_read_pla.Goals as goal
 
-pub rewritten-requires : goal.rewritten-requires
-rewritten-requires c = reads_pla_sound most_marks entries (omega arith) (omega arith) c.read.ensures
+pub written-requires : goal.written-requires
+written-requires c = reads_pla_sound most_marks entries (omega arith) (omega arith) c.read.ensures
 
 pub returns : goal.returns
-returns c = changes_read c.read.ensures c.rewritten.ensures
+returns c = rw c.into.ensures (changes_read c.read.ensures c.written.ensures)

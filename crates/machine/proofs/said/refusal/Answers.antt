@@ -1,7 +1,8 @@
--- The pair of `refused`.
-use Rattle.machine.specs.Machine.{refusal}
+-- What the page has, the area has.
+use Rattle.std.proofs.Common.{arith, rules}
+use Rattle.machine.proofs.Laid.{refusal-length}
+use Rattle.print.proofs.Pages.{wrote_on}
 use Rattle.machine.proofs.said.refusal.Goals as goal
 
 pub returns : goal.returns
-unfolding refusal
-returns c = c.put_pair.ensures
+returns c = wrote_on c.put_refusal.ensures c.new-page.ensures.area c.new-page.ensures.empty (omega (arith, refusal-length c.args.number c.args.answer (omega arith) (omega arith))) (search rules)

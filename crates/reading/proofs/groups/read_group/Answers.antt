@@ -1,5 +1,5 @@
 -- A byte, and whether its group may stand there.
-use Rattle.std.proofs.Common.{sym, ◌∙◌}
+use Rattle.std.proofs.Common.{refl, sym, ◌∙◌}
 use Rattle.sections.proofs.Refused.{passed_on}
 use Rattle.reading.proofs.Carried.{group_carried, group_dropped, group_faulty}
 use Rattle.reading.proofs.groups.read_group.Goals as goal
@@ -12,5 +12,5 @@ returns-then-not-may_follow c start left =
     rw c.place-place.ensures (group_dropped c.in_ok-group.ensures.read start left (sym c.may_follow.ensures ∙ c.if-not-may_follow.true))
 
 pub returns : goal.returns
-returns c start left =
-    rw c.followed.ensures (group_carried c.in_ok-group.ensures.read start left (sym c.may_follow.ensures ∙ c.if-not-may_follow.false))
+returns c =
+    (refl, λ start left. rw c.followed.ensures (group_carried c.in_ok-group.ensures.read start left (sym c.may_follow.ensures ∙ c.if-not-may_follow.false)))

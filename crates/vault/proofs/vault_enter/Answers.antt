@@ -1,0 +1,4 @@
+use Rattle.vault.proofs.vault_enter.Goals as goal
+
+pub returns : goal.returns
+returns c = rw c.into.ensures c.change.ensures
