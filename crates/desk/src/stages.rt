@@ -3,7 +3,7 @@ ghost use Rattle.std.specs.Prelude.{◌≡◌, ◌+◌, ◌≤◌, length};
 ghost use Rattle.ground.specs.Areas.{Wrote};
 ghost use Rattle.sheet.specs.Told.{opening_of};
 ghost use Rattle.machine.specs.Machine.{spoken as spoken_text};
-ghost use Rattle.machine.specs.AtHand.{told, row_of, refusal_room};
+ghost use Rattle.machine.specs.AtHand.{row_of, refusal_room};
 ghost use Rattle.machine.specs.Steps.{page_room};
 ghost use Rattle.desk.specs.Prints.{first};
 ghost use Rattle.desk.specs.States.{kind};
@@ -28,7 +28,7 @@ pub enum Desk {
 
 // What the line at hand opens as line 1.
 pub fn first_answer(line: &Line) -> Result<Sheet, Refused>
-    ensures { FirstAnswered (row_of (told line.now)) (opening_of result) }
+    ensures { FirstAnswered (row_of line.now) (opening_of result) }
 {
     let marks = lines::first_of(line).ok_or(Refusal::Unreadable(0))?;
     Sheet::open(marks)
@@ -49,7 +49,7 @@ impl Desk {
     // Line 1 has ended.
     fn first_line(&mut self, line: &Line, out: &mut [u8]) -> usize
         requires { page_room ≤ length out.old }
-        ensures { FirstTaken line.now.number (row_of (told line.now)) out.old self.new result out.new }
+        ensures { FirstTaken line.now.number (row_of line.now) out.old self.new result out.new }
     {
         match first_answer(line) {
             Ok(sheet) => {

@@ -1,6 +1,6 @@
 // A program that reads lines: what a line and the end of the input do. What its lines print is told by its machine; a session runs any of them.
 ghost use Rattle.std.specs.Prelude.{◌≡◌, ◌+◌, ◌≤◌, length};
-ghost use Rattle.machine.specs.AtHand.{told, row_of};
+ghost use Rattle.machine.specs.AtHand.{row_of};
 ghost use Rattle.machine.specs.Answers.{OneAnswer};
 ghost use Rattle.machine.specs.Steps.{page_room};
 ghost use Rattle.machine.specs.Programs.{Kind, In, Runs, Steps, Stops, SilentWhenOver};
@@ -22,7 +22,7 @@ pub trait Program: Drop {
     fn step(&mut self, line: &Line, out: &mut [u8]) -> usize
         requires runs { Runs kind self.old }
         requires page_room_in_bounds { page_room ≤ length out.old }
-        ensures { Steps kind self.old line.now.number (row_of (told line.now)) out.old self.new result out.new };
+        ensures { Steps kind self.old line.now.number (row_of line.now) out.old self.new result out.new };
 
     // The input is at its end.
     fn stop(&self, out: &mut [u8], at: usize) -> usize

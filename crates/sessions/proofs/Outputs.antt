@@ -8,7 +8,7 @@ use Rattle.machine.specs.Machine.{Output}
 use Rattle.machine.specs.Pieces.{Position, in-line, start, Takes, none, byte, newline, Finishes, ended, cut_off, done, piece}
 use Rattle.machine.specs.Programs.{Kind, SilentWhenOver}
 use Rattle.machine.proofs.Pieces.{any_pieces}
-use Rattle.sessions.specs.Sessions.{Told, session_of, At, Took}
+use Rattle.sessions.specs.Sessions.{session_of, At, Took}
 use Rattle.sessions.specs.declared.Session.{Session}
 
 module _ {P : Type 0} (k : Kind P) where
@@ -26,7 +26,7 @@ module _ {P : Type 0} (k : Kind P) where
       (λ d. let w = silent_takes silent rest n s (begun ++ b ∷ []) o in (w.0, byte d w.1, w.2))
 
   at_over : {d : Session P} (p : Position k.machine) → At k d p → k.over d.program ≡ true → k.over (session_of k p).program ≡ true
-  at_over p a o = ap (λ (x : Told P). k.over x.program) (sym a.is) ∙ o
+  at_over p a o = ap (λ (x : Session P). k.over x.program) (sym a.is) ∙ o
 
   goes_silent : SilentWhenOver k → {d : Session P} (p : Position k.machine) → At k d p → k.over d.program ≡ true → (rest : List ℕ)
       → (q : Position k.machine) × Takes k.machine p rest q [] × Finishes k.machine q []

@@ -9,30 +9,30 @@ use Rattle.machine.specs.Answers.{OneAnswer}
 use Rattle.machine.specs.Pieces.{Position, in-line, start, line_in, Takes, none, FinishedBy}
 use Rattle.machine.specs.Programs.{Kind, In, Runs, Steps, Stops}
 use Rattle.machine.specs.Steps.{page_room}
-use Rattle.machine.specs.AtHand.{Line, told, row_of, empty, typed, is_none, line_cut_off, cut, cut_of}
-use Rattle.machine.specs.declared.line.Line.{Line as Held}
-use Rattle.machine.proofs.AtHand.{line_is, typed_none, typed_number}
+use Rattle.machine.specs.AtHand.{row_of, empty, typed, is_none, line_cut_off, cut, cut_of}
+use Rattle.machine.specs.declared.line.Line.{Line}
+use Rattle.machine.proofs.AtHand.{typed_none, typed_number}
 use Rattle.machine.proofs.Pieces.{takes_then, up_to-le, up_to_pos, cut_grown, fed_quiet, fed_line, finish_none, finish_line, takes_number}
 use Rattle.machine.proofs.Outputs.{fed_one, finished_one}
-use Rattle.sessions.specs.Sessions.{Told, shown, session_of, At, Feeds, FedTo, Took}
+use Rattle.sessions.specs.Sessions.{session_of, At, Feeds, FedTo, Took}
 use Rattle.sessions.specs.declared.Session.{Session}
 use Rattle.sessions.specs.declared.Fed.{Fed}
 
 module _ {P : Type 0} (k : Kind P) where
-  session_is : {l m : Line} {p q : P} → l ≡ m → p ≡ q → ◌≡◌ {A = Told P} (record { line = l; program = p }) (record { line = m; program = q })
+  session_is : {l m : Line} {p q : P} → l ≡ m → p ≡ q → ◌≡◌ {A = Session P} (record { line = l; program = p }) (record { line = m; program = q })
   session_is e f = ap₂ (λ (l : Line) (p : P). record { line = l; program = p }) e f
 
-  pub at_start : {l : Held} {p : P} → told l ≡ empty 1 → In k p k.machine.start → At k (record { line = l; program = p }) (start k.machine)
+  pub at_start : {l : Line} {p : P} → l ≡ empty 1 → In k p k.machine.start → At k (record { line = l; program = p }) (start k.machine)
   at_start e i = record { is = session_is (e ∙ typed_none 1) i.is; can = i.can }
 
   -- what is known of a session that stands somewhere
 
   module _ {d : Session P} where
-    at_line : {n : ℕ} {s : k.machine.State} {begun : List ℕ} → At k d (in-line n s begun) → told d.line ≡ typed n begun
-    at_line a = ap (λ (x : Told P). x.line) a.is
+    at_line : {n : ℕ} {s : k.machine.State} {begun : List ℕ} → At k d (in-line n s begun) → d.line ≡ typed n begun
+    at_line a = ap (λ (x : Session P). x.line) a.is
 
     at_in : {n : ℕ} {s : k.machine.State} {begun : List ℕ} → At k d (in-line n s begun) → In k d.program s
-    at_in a = record { is = ap (λ (x : Told P). x.program) a.is; can = a.can }
+    at_in a = record { is = ap (λ (x : Session P). x.program) a.is; can = a.can }
 
     pub at_runs : (p : Position k.machine) → At k d p → Runs k d.program
     at_runs (in-line n s begun) a = (s, at_in a)
@@ -42,7 +42,7 @@ module _ {P : Type 0} (k : Kind P) where
 
     -- a piece that was cut
 
-    module _ (piece : List ℕ) (l : Held) {used : ℕ} {ended : Bool} (is : cut (told l) used ended ≡ cut_of (told d.line) piece) where
+    module _ (piece : List ℕ) (l : Line) {used : ℕ} {ended : Bool} (is : cut l used ended ≡ cut_of d.line piece) where
       pub cut_number : (p : Position k.machine) → At k d p → l.number ≡ d.line.number
       cut_number (in-line n s begun) a =
           let g = cut_grown k.machine n s begun piece (at_line a) is in typed_number n g.whole g.line ∙ sym (typed_number n begun (at_line a))
@@ -55,8 +55,8 @@ module _ {P : Type 0} (k : Kind P) where
             session = record { is = session_is g.line (at_in a).is; can = a.can };
           }
 
-      pub feed_line : {out later : List ℕ} {after : P} {w : ℕ} {next : Held} → ended ≡ true
-          → Steps k d.program l.number (row_of (told l)) out after w later → told next ≡ empty (l.number + 1)
+      pub feed_line : {out later : List ℕ} {after : P} {w : ℕ} {next : Line} → ended ≡ true
+          → Steps k d.program l.number (row_of l) out after w later → next ≡ empty (l.number + 1)
           → Feeds k d piece out (record { line = next; program = after }) (record { used = used; wrote = w }) later
       feed_line e steps q (in-line n s begun) a =
           let g = cut_grown k.machine n s begun piece (at_line a) is in
@@ -72,16 +72,16 @@ module _ {P : Type 0} (k : Kind P) where
 
     -- the end of the input
 
-    pub finish_quiet : (p : Position k.machine) {out later : List ℕ} {w : ℕ} → At k d p → is_none (row_of (told d.line)) ≡ true → Stops k d.program out 0 w later
+    pub finish_quiet : (p : Position k.machine) {out later : List ℕ} {w : ℕ} → At k d p → is_none (row_of d.line) ≡ true → Stops k d.program out 0 w later
         → FinishedBy k.machine p out w later
     finish_quiet (in-line n s begun) a e stops = finish_none begun (at_line a) e (stops s (at_in a))
 
-    module _ (m : Held) (is : told m ≡ line_cut_off (told d.line)) {out o : List ℕ} {t : P} {v : ℕ} (steps : Steps k d.program m.number (row_of (told m)) out t v o) where
+    module _ (m : Line) (is : m ≡ line_cut_off d.line) {out o : List ℕ} {t : P} {v : ℕ} (steps : Steps k d.program m.number (row_of m) out t v o) where
       -- where the last line leads
       last_in : {n : ℕ} {begun : List ℕ} (s : k.machine.State) (a : At k d (in-line n s begun)) → In k t (steps s (at_in a)).by.state
       last_in s a = let w = steps s (at_in a) in record { is = w.by.is; can = w.can }
 
-      pub finish_last : (p : Position k.machine) {later : List ℕ} {w : ℕ} → At k d p → is_none (row_of (told d.line)) ≡ false → length o ≡ length out
+      pub finish_last : (p : Position k.machine) {later : List ℕ} {w : ℕ} → At k d p → is_none (row_of d.line) ≡ false → length o ≡ length out
           → Stops k t o v w later → length later ≡ length out → FinishedBy k.machine p out w later
       finish_last (in-line n s begun) a e f stops g =
           finish_line begun (at_line a) e is (steps s (at_in a)).by f (stops (steps s (at_in a)).by.state (last_in s a)) g
@@ -114,17 +114,13 @@ module _ {P : Type 0} (k : Kind P) where
       pub fed_within : {out later : List ℕ} {r : Fed} → FedTo k w.position rest out t r later → r.used ≤ length rest
       fed_within f = omega (arith, f.fed.used, up_to-le rest)
 
-  -- a session is known by what is told of it
-  session_same : {s t : Session P} → shown s ≡ shown t → s ≡ t
-  session_same e = ap₂ (λ (l : Held) (p : P). record { line = l; program = p }) (line_is (ap (λ (x : Told P). x.line) e)) (ap (λ (x : Told P). x.program) e)
-
   -- NO TWO RETURNS of `feed` and of `finish`, where a line in a state has one answer (`Program::one_answer`)
 
   module _ (one : OneAnswer k.machine) {p : Position k.machine} {out o₁ o₂ : List ℕ} where
     pub feed_settled : {piece : List ℕ} {s t : Session P} {r q : Fed} → FedTo k p piece out s r o₁ → FedTo k p piece out t q o₂ → (s ≡ t) × (r ≡ q) × (o₁ ≡ o₂)
-    feed_settled {s = s} {t = u} f g =
+    feed_settled f g =
         let t = fed_one one f.fed g.fed in
-        (session_same {s = s} {t = u} (f.session.is ∙ ap (session_of k) t.0 ∙ sym g.session.is), λ i. record { used = t.1 i; wrote = t.2 i }, t.3)
+        (f.session.is ∙ ap (session_of k) t.0 ∙ sym g.session.is, λ i. record { used = t.1 i; wrote = t.2 i }, t.3)
 
     pub finish_settled : {r q : ℕ} → FinishedBy k.machine p out r o₁ → FinishedBy k.machine p out q o₂ → (r ≡ q) × (o₁ ≡ o₂)
     finish_settled f g = finished_one one f g

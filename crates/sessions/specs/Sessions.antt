@@ -1,7 +1,7 @@
 -- A session in the code: where it stands in the machine of its program, and what its calls promise.
 use Rattle.std.specs.Prelude.{ℕ, ◌+◌, ◌^◌, ◌≤◌, ◌<◌, ◌≡◌, List, length}
 use Rattle.machine.specs.Pieces.{Position, in-line, state_in, Takes, FedBy, FinishedBy}
-use Rattle.machine.specs.AtHand.{Line, told, typed}
+use Rattle.machine.specs.AtHand.{typed}
 use Rattle.machine.specs.Steps.{page_room}
 use Rattle.machine.specs.Programs.{Kind}
 use Rattle.sessions.specs.declared.Session.{Session}
@@ -12,21 +12,13 @@ use Rattle.sessions.specs.declared.Fed.{Fed}
 abbrev pub room : ℕ
 room = page_room + page_room
 
--- a session, as it is told
-pub record Told (P : Type 0) : Type 0 where
-  pub line : Line
-  pub program : P
-
-abbrev pub shown : {P : Type 0} → Session P → Told P
-shown s = record { line = told s.line; program = s.program }
-
 -- the session of a position
-abbrev pub session_of : {P : Type 0} → (k : Kind P) → Position k.machine → Told P
+abbrev pub session_of : {P : Type 0} → (k : Kind P) → Position k.machine → Session P
 session_of k (in-line n s begun) = record { line = typed n begun; program = k.held s }
 
 -- the session is one of this kind, and stands at this position
 pub record At {P : Type 0} (k : Kind P) (s : Session P) (p : Position k.machine) : Type 0 where
-  pub is : shown s ≡ session_of k p
+  pub is : s ≡ session_of k p
   pub can : k.Can (state_in p)
 
 -- a session that stands somewhere

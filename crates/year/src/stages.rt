@@ -1,6 +1,6 @@
 // The stages of a session: what a line and the end of the input do.
 ghost use Rattle.std.specs.Prelude.{◌≤◌, length};
-ghost use Rattle.machine.specs.AtHand.{told, row_of};
+ghost use Rattle.machine.specs.AtHand.{row_of};
 ghost use Rattle.machine.specs.Steps.{page_room};
 ghost use Rattle.year.specs.States.{kind};
 ghost use Rattle.year.specs.Parts.{YearTaken, MarksTaken};
@@ -27,7 +27,7 @@ impl Year {
     // Line 1 has ended.
     fn year_line(&mut self, line: &Line, out: &mut [u8]) -> usize
         requires { page_room ≤ length out.old }
-        ensures { YearTaken line.now.number (row_of (told line.now)) out.old self.new result out.new }
+        ensures { YearTaken line.now.number (row_of line.now) out.old self.new result out.new }
     {
         match year_lines::year_of(line) {
             Some(year) => {
@@ -44,7 +44,7 @@ impl Year {
     // Line 2 has ended.
     fn marks_line(&mut self, year: usize, line: &Line, out: &mut [u8]) -> usize
         requires { page_room ≤ length out.old }
-        ensures { MarksTaken year line.now.number (row_of (told line.now)) out.old self.new result out.new }
+        ensures { MarksTaken year line.now.number (row_of line.now) out.old self.new result out.new }
     {
         match desk::first_answer(line) {
             Ok(sheet) => {
