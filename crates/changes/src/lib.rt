@@ -19,7 +19,7 @@ use tables;
 use tables::Shift;
 
 // A call that changes a sheet, with any numbers.
-#[derive(Clone, Copy)]
+#[derive(Clone, Copy, Debug, PartialEq, Eq)]
 pub enum Call {
     Change(Standing, usize),
     Receive(usize, u64),
@@ -27,7 +27,7 @@ pub enum Call {
 }
 
 // What a call comes to: the combination, and what each table is shifted by in the boxes that contain it.
-#[derive(Clone, Copy)]
+#[derive(Clone, Copy, Debug, PartialEq, Eq)]
 pub struct Move {
     pub at: usize,
     pub outside: Shift,

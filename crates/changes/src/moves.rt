@@ -37,8 +37,8 @@ pub fn change_move(o: u32, e: u32, to: Standing, c: usize) -> Move
 {
     Move {
         at: c,
-        outside: between(o, classes::outs(to)),
-        either: between(e, classes::eithers(to)),
+        outside: between(o, to.outs()),
+        either: between(e, to.eithers()),
         held: Shift::Stays,
     }
 }

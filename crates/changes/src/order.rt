@@ -89,7 +89,7 @@ impl<'a> Combination<'a> {
     fn stands(&self, to: Standing) -> bool
         ensures { result ≡ tells to (own_in outside_counts self.now.sheet.now self.now.c) (own_in either_counts self.now.sheet.now self.now.c) }
     {
-        classes::tells(to, self.outside(), self.either())
+        to.tells(self.outside(), self.either())
     }
 
     // Whether it holds what keeps it from standing so: an either combination holds nothing.

@@ -13,99 +13,126 @@ ghost use Rattle.classes.specs.declared.Standing.TheVariants.{Either};
 use profiles::Profile;
 
 // How a combination stands to the class. Lines must contain those that are in, may not contain those that are out, and may contain those that are either.
-#[derive(Clone, Copy)]
+#[derive(Clone, Copy, Debug, PartialEq, Eq)]
 pub enum Standing {
     In,
     Out,
     Either,
 }
 
-// What a combination of a standing adds to the outside counts.
-pub fn outs(s: Standing) -> u32
-    ensures { result ≡ outs s }
-{
-    match s {
-        Standing::In => 0,
-        Standing::Out => 1,
-        Standing::Either => 0,
-    }
-}
-
-// What it adds to the either counts.
-pub fn eithers(s: Standing) -> u32
-    ensures { result ≡ eithers s }
-{
-    match s {
-        Standing::In => 0,
-        Standing::Out => 0,
-        Standing::Either => 1,
-    }
-}
-
-// Whether own counts o and e are those of a standing.
-pub fn tells(s: Standing, o: u32, e: u32) -> bool
-    ensures { result ≡ tells s o e }
-{
-    o == outs(s) && e == eithers(s)
-}
-
-// Whether each combination's own counts tell one of the three standings.
-fn each_tells(m: usize, outside: &[u32], either: &[u32]) -> bool
-    requires { TableOver m outside.now × TableOver m either.now }
-    ensures { Decides result ((c : ℕ) → c < 2 ^ m → own m outside.now c + own m either.now c ≤ 1) }
-{
-    let n = boxes::power2(m);
-    for c in 0..n {
-        let b = boxes::single(m, c);
-        if 1 < ground::wide(outside[b]) + ground::wide(either[b]) {
-            return false;
+impl Standing {
+    // What a combination of the standing adds to the outside counts.
+    pub fn outs(self) -> u32
+        ensures { result ≡ outs self }
+    {
+        match self {
+            Standing::In => 0,
+            Standing::Out => 1,
+            Standing::Either => 0,
         }
     }
-    true
-}
 
-// Whether both counts are sound.
-fn counts_sound(m: usize, outside: &[u32], either: &[u32]) -> bool
-    requires { TableOver m outside.now × TableOver m either.now }
-    ensures { Decides result (CountsSound m outside.now either.now) }
-{
-    each_tells(m, outside, either) && tables::sums(m, outside) && tables::sums(m, either)
-}
-
-// Whether each combination that breaks the profile is either.
-fn obeys(m: usize, profile: Profile, outside: &[u32], either: &[u32]) -> bool
-    requires { TableOver m outside.now × TableOver m either.now }
-    ensures { Decides result ((c : ℕ) → c < 2 ^ m → breaks m profile c ≡ true → tells Either (own m outside.now c) (own m either.now c) ≡ true) }
-{
-    let n = boxes::power2(m);
-    for c in 0..n {
-        let b = boxes::single(m, c);
-        if profile.breaks(m, c) && !tells(Standing::Either, outside[b], either[b]) {
-            return false;
+    // What it adds to the either counts.
+    pub fn eithers(self) -> u32
+        ensures { result ≡ eithers self }
+    {
+        match self {
+            Standing::In => 0,
+            Standing::Out => 0,
+            Standing::Either => 1,
         }
     }
-    true
-}
 
-// Whether the class table is sound.
-pub fn class_sound(m: usize, profile: Profile, outside: &[u32], either: &[u32]) -> bool
-    requires { TableOver m outside.now × TableOver m either.now }
-    ensures { Decides result (ClassSound m profile outside.now either.now) }
-{
-    counts_sound(m, outside, either) && profile.ok(m) && obeys(m, profile, outside, either)
-}
-
-// Whether no combination that is either holds seconds.
-pub fn apart(m: usize, outside: &[u32], either: &[u32], held: &[u32]) -> bool
-    requires { TableOver m outside.now × TableOver m either.now × TableOver m held.now }
-    ensures { Decides result (Apart m outside.now either.now held.now) }
-{
-    let n = boxes::power2(m);
-    for c in 0..n {
-        let b = boxes::single(m, c);
-        if 0 < held[b] && tells(Standing::Either, outside[b], either[b]) {
-            return false;
-        }
+    // Whether own counts o and e are those of the standing.
+    pub fn tells(self, o: u32, e: u32) -> bool
+        ensures { result ≡ tells self o e }
+    {
+        o == self.outs() && e == self.eithers()
     }
-    true
+}
+
+// The outside and the either counts of a class.
+#[derive(Clone, Copy)]
+pub struct Counts<'a> {
+    pub marks: usize,
+    pub outside: &'a [u32],
+    pub either: &'a [u32],
+    ghost over_outside: { TableOver marks outside.now },
+    ghost over_either: { TableOver marks either.now },
+}
+
+impl Counts<'_> {
+    // Whether the own counts of a combination are those of a standing.
+    fn stands(&self, c: usize, to: Standing) -> bool
+        requires { c < 2 ^ self.now.marks }
+        ensures { result ≡ tells to (own self.now.marks self.now.outside.now c) (own self.now.marks self.now.either.now c) }
+    {
+        let b = boxes::single(self.marks, c);
+        to.tells(self.outside[b], self.either[b])
+    }
+
+    // Whether the own counts of a combination tell one of the three standings.
+    fn tells_one(&self, c: usize) -> bool
+        requires { c < 2 ^ self.now.marks }
+        ensures { Decides result (own self.now.marks self.now.outside.now c + own self.now.marks self.now.either.now c ≤ 1) }
+    {
+        let b = boxes::single(self.marks, c);
+        u64::from(self.outside[b]) + u64::from(self.either[b]) <= 1
+    }
+
+    // Whether each combination's own counts tell one of the three standings.
+    fn each_tells(&self) -> bool
+        ensures { Decides result ((c : ℕ) → c < 2 ^ self.now.marks → own self.now.marks self.now.outside.now c + own self.now.marks self.now.either.now c ≤ 1) }
+    {
+        // not by `all`: what its closure says of each combination didn't give what holds of all
+        for c in 0..boxes::power2(self.marks) {
+            if !self.tells_one(c) {
+                return false;
+            }
+        }
+        true
+    }
+
+    // Whether both counts are sound.
+    fn sound(&self) -> bool
+        ensures { Decides result (CountsSound self.now.marks self.now.outside.now self.now.either.now) }
+    {
+        self.each_tells()
+            && tables::sums(self.marks, self.outside)
+            && tables::sums(self.marks, self.either)
+    }
+
+    // Whether each combination that breaks the profile is either.
+    fn obeys(&self, profile: Profile) -> bool
+        ensures { Decides result ((c : ℕ) → c < 2 ^ self.now.marks → breaks self.now.marks profile c ≡ true → tells Either (own self.now.marks self.now.outside.now c) (own self.now.marks self.now.either.now c) ≡ true) }
+    {
+        // a `for`, as in `each_tells`
+        for c in 0..boxes::power2(self.marks) {
+            if profile.breaks(self.marks, c) && !self.stands(c, Standing::Either) {
+                return false;
+            }
+        }
+        true
+    }
+
+    // Whether they are the class table of a sound sheet under a profile.
+    pub fn class_sound(&self, profile: Profile) -> bool
+        ensures { Decides result (ClassSound self.now.marks profile self.now.outside.now self.now.either.now) }
+    {
+        self.sound() && profile.ok(self.marks) && self.obeys(profile)
+    }
+
+    // Whether no combination that is either holds seconds.
+    pub fn apart(&self, held: &[u32]) -> bool
+        requires { TableOver self.now.marks held.now }
+        ensures { Decides result (Apart self.now.marks self.now.outside.now self.now.either.now held.now) }
+    {
+        // a `for`, as in `each_tells`
+        for c in 0..boxes::power2(self.marks) {
+            if 0 < held[boxes::single(self.marks, c)] && self.stands(c, Standing::Either) {
+                return false;
+            }
+        }
+        true
+    }
 }

@@ -15,7 +15,7 @@ ghost use Rattle.sheet.specs.Sound.{ClassReady, Ready, TimesSound, record_of, si
 ghost use Rattle.sheet.specs.Told.{opening_of, value_of};
 
 use boxes;
-use classes::Standing;
+use classes::{Counts, Standing};
 use profiles::Profile;
 use refusals::Refusal;
 use tables;
@@ -150,8 +150,8 @@ impl Sheet {
         // an index serves two tables at once; an iterator over both is no plainer
         for c in 0..n {
             let to = opened_as(m, profile, c);
-            outs[c] = classes::outs(to);
-            eithers[c] = classes::eithers(to);
+            outs[c] = to.outs();
+            eithers[c] = to.eithers();
         }
         let none = [0u32; 32];
         Sheet::afresh(m, profile, &outs, &eithers, &none)
@@ -170,12 +170,23 @@ impl Sheet {
         Ok(Sheet::opened_under(marks, Profile::of(groups)))
     }
 
+    // The counts of its class.
+    fn counts(&self) -> Counts<'_>
+        requires { marks_ok most_marks self.now.marks ≡ true }
+        ensures { (result.marks ≡ self.now.marks) × (result.outside.now ≡ self.now.outside) × (result.either.now ≡ self.now.either) }
+    {
+        Counts {
+            marks: self.marks,
+            outside: &self.outside,
+            either: &self.either,
+        }
+    }
+
     // Whether a call that reads the class can be answered: m is right, and the class table is sound.
     pub fn class_ready(&self) -> bool
         ensures { Decides result (ClassReady most_marks self.now) }
     {
-        marks_ok(self.marks)
-            && classes::class_sound(self.marks, self.profile, &self.outside, &self.either)
+        marks_ok(self.marks) && self.counts().class_sound(self.profile)
     }
 
     // Whether the time table is sound: each entry is the sum over its box, the sheet holds no more than it may, and what is either holds nothing.
@@ -185,7 +196,7 @@ impl Sheet {
     {
         let all = boxes::power3(self.marks) - 1;
         self.held[all] <= Sheet::MOST_HELD
-            && classes::apart(self.marks, &self.outside, &self.either, &self.held)
+            && self.counts().apart(&self.held)
             && tables::sums(self.marks, &self.held)
     }
 
