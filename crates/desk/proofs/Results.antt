@@ -10,8 +10,6 @@ use lib.Seq.{length-take-le}
 use Rattle.boxes.specs.Boxes.{sum_in}
 use Rattle.boxes.specs.Sums.{sum, only}
 use Rattle.ground.proofs.Cases.{if}
-use Rattle.ground.specs.Areas.{Wrote}
-use Rattle.ground.proofs.Areas.{wrote_length}
 use Rattle.boxes.proofs.Sums.{sum-le}
 use Rattle.lists.specs.Lists.{most_lines}
 use Rattle.tables.specs.Tables.{entry}
@@ -33,8 +31,10 @@ use Rattle.listing.proofs.Laid.{lines_fit, laid_few, laid_inside, laid_is}
 use Rattle.histories.specs.Histories.{Good, Given}
 use Rattle.histories.proofs.Afresh.{kept_afresh, size_afresh, total_afresh, list_afresh}
 use Rattle.histories.proofs.Goods.{good_small}
-use Rattle.machine.proofs.Laid.{wrote_three}
-use Rattle.desk.specs.Prints.{heads, box_lines, last_line, page}
+use Rattle.print.specs.Pages.{Puts}
+use Rattle.print.specs.declared.page.Page.{Page}
+use Rattle.print.proofs.Pages.{puts_then, wrote_on}
+use Rattle.desk.specs.Prints.{heads, box_lines, last_line, page, Result}
 use Rattle.desk.specs.Parts.{OfRecord, Printed, HaveEntries, line_room, result_room}
 use Rattle.desk.proofs.Texts.{heads-length, last_length, lines_same, boxes_below}
 
@@ -109,41 +109,52 @@ module _ {r : Record} {sheet : Sheet} (of : OfRecord sheet r) where
     heads_short : length (heads size.value v.value) ≤ 54
     heads_short = heads-length size.value v.value (size_small sized) (omega (arith, count_small of.good g))
 
-    module _ {out o₁ : List ℕ} {at a : ℕ} (p : Wrote out at (heads size.value v.value) a o₁) (room : at + result_room ≤ length out) where
+    module _ (at : ℕ) {a space : ℕ} (behind_heads : a ≡ at + length (heads size.value v.value)) (room : at + result_room ≤ space) where
       -- room for the lines behind the heads
-      pub lines_room : a + line_room * length (take v.value later) ≤ length o₁
-      lines_room = omega (arith, p.place, heads_short, front_long of.good g, count_small of.good g, wrote_length p (omega (arith, heads_short)))
+      pub lines_room : a + line_room * length (take v.value later) ≤ space
+      lines_room = omega (arith, behind_heads, heads_short, front_long of.good g, count_small of.good g)
 
       -- and for the total behind the lines
-      pub total_room : {b : ℕ} → b ≤ a + line_room * length (take v.value later) → b + line_room ≤ length out
-      total_room h = omega (arith, p.place, heads_short, front_long of.good g, count_small of.good g)
+      pub total_room : {b : ℕ} → b ≤ a + line_room * length (take v.value later) → b + line_room ≤ space
+      total_room h = omega (arith, behind_heads, heads_short, front_long of.good g, count_small of.good g)
 
-      pub printed : {o₂ o₃ : List ℕ} {b k : ℕ} {total : Value} → Totalled most_marks sheet total
-          → Wrote o₁ a (box_lines sheet.marks (entry sheet.held) (take v.value later)) b o₂
-          → b ≤ a + line_room * length (take v.value later)
-          → Wrote o₂ b (last_line total.value) k o₃ → Printed r out at k o₃
+    -- the text of the result: its heads, its lines and its total
+    module _ {total : Value} (totalled : Totalled most_marks sheet total) where
+      abbrev pub text : List ℕ
+      text = heads size.value v.value ++ box_lines sheet.marks (entry sheet.held) (take v.value later) ++ last_line total.value
+
+      result_is : Result r text
       unfolding page
-      printed {total = total} totalled q short t =
+      result_is =
           let lines =
           ap (λ (s : Sheet). box_lines s.marks (entry s.held) (take v.value later)) of.is
           ∙ ap (box_lines r.marks (entry (sheet_of entries r).held)) (laid_is g.1)
           ∙ lines_same r.marks (entry (sheet_of entries r).held) (λ x. sum_in r.marks x r.times) g.1.list g.1.right.fits.boxes
           (λ b l. kept_afresh r of.good held_seconds b (omega (arith, boxes_fit r.marks of.good.marks))) in
+          record {
+            list = g.1.list;
+            first = g.1.right;
+            is =
+                ap₂ (λ (x : ℕ) (y : ℕ). heads x y ++ box_lines sheet.marks (entry sheet.held) (take v.value later) ++ last_line total.value)
+                (ap (λ (x : Value). x.value) (size_told sized)) g.1.size
+                ∙ ap₂ (λ (x : List ℕ) (y : ℕ). heads (size_of r.marks (in_class r)) (length g.1.list) ++ x ++ last_line y) lines
+                (ap (λ (x : Value). x.value) (total_told totalled));
+          }
+
+      -- heads, lines and total were laid on a page of the area, one behind the other
+      pub printed : {p q s t : Page} {out now : List ℕ} {at : ℕ} → p.area.now ≡ out → p.len ≡ at → at + result_room ≤ length out → t.area.now ≡ now
+          → Puts p q (heads size.value v.value)
+          → Puts q s (box_lines sheet.marks (entry sheet.held) (take v.value later)) → s.len ≤ q.len + line_room * length (take v.value later)
+          → Puts s t (last_line total.value) → Printed r out at t.len now
+      printed {p} {q} {s} {t} e f room h x y short z =
+          let whole = puts_then (puts_then x y) z in
           let last = last_length total.value (total_small totalled) in
           let small = count_small of.good g in
           let long = front_long of.good g in
+          let size : t.len ≤ p.len + result_room = omega (arith, x.len, y.len, z.len, heads_short) in
           record {
-            text = heads size.value v.value ++ box_lines sheet.marks (entry sheet.held) (take v.value later) ++ last_line total.value;
-            result =
-                record {
-                  list = g.1.list;
-                  first = g.1.right;
-                  is =
-                      ap₂ (λ (x : ℕ) (y : ℕ). heads x y ++ box_lines sheet.marks (entry sheet.held) (take v.value later) ++ last_line total.value)
-                      (ap (λ (x : Value). x.value) (size_told sized)) g.1.size
-                      ∙ ap₂ (λ (x : List ℕ) (y : ℕ). heads (size_of r.marks (in_class r)) (length g.1.list) ++ x ++ last_line y) lines
-                      (ap (λ (x : Value). x.value) (total_told totalled));
-                };
-            wrote = wrote_three p q t (omega (arith, p.place, q.place, t.place, heads_short));
-            short = omega (arith, p.place, t.place, heads_short);
+            text = text;
+            result = result_is;
+            wrote = wrote_on whole e f (omega (arith, whole.len)) h;
+            short = omega (arith, size);
           }

@@ -10,6 +10,9 @@ use Rattle.lists.specs.Lists.{Boxes}
 use Rattle.ground.specs.Texts.{ascii}
 use Rattle.sheet.specs.Limits.{most_marks}
 use Rattle.print.specs.Texts.{decimal, clock, pattern}
+use Rattle.print.specs.Pages.{Puts}
+use Rattle.print.specs.declared.page.Page.{Page}
+use Rattle.print.proofs.Pages.{puts_then, puts_text}
 use Rattle.print.proofs.Digits.{number_room, time_room, pattern-length}
 use Rattle.desk.specs.Prints.{heads, box_line, box_lines, last_line}
 
@@ -70,3 +73,10 @@ unfolding Boxes
 boxes_below m [] h k q = absurd (omega arith)
 boxes_below m (b ∷ l) h zero q = h.0
 boxes_below m (b ∷ l) h (suc k) q = boxes_below m l h.1 k (omega arith)
+
+-- one line more on a page
+pub line_put : (m : ℕ) (f : ℕ → ℕ) (l : List ℕ) (i : ℕ) {p q s : Page} {b x : ℕ} → i < length l → b ≡ get_or l i 0 → x ≡ f b → Puts p q (box_lines m f (take i l))
+    → Puts q s (box_line m b x) → Puts p s (box_lines m f (take (i + 1) l))
+line_put m f l i {b = b} {x = x} h e d p q =
+    puts_text (sym (lines_more m f l i h))
+    (puts_then p (puts_text (ap (box_line m b) (d ∙ ap f e) ∙ ap (λ (c : ℕ). box_line m c (f (get_or l i 0))) e) q))

@@ -1,5 +1,5 @@
 -- The desk in the code: what it holds of a state of the machine `holdings`, and what its calls promise.
-use Rattle.std.specs.Prelude.{ℕ, ◌≡◌, Bool, true, false, List}
+use Rattle.std.specs.Prelude.{ℕ, Bool, true, false, List}
 use Rattle.sheet.specs.Limits.{entries}
 use Rattle.sheet.specs.Record.{Record, sheet_of, opened}
 use Rattle.histories.specs.Histories.{Good}

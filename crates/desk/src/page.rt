@@ -1,6 +1,6 @@
-// The result, laid in a lent area.
+// The result, laid on a page of a lent area.
 ghost use Rattle.std.specs.Prelude.{◌+◌, ◌*◌, ◌≤◌, length};
-ghost use Rattle.ground.specs.Areas.{Wrote};
+ghost use Rattle.print.specs.Pages.{Puts, HasRoom};
 ghost use Rattle.tables.specs.Tables.{entry};
 ghost use Rattle.sheet.specs.Limits.{most_marks};
 ghost use Rattle.sheet.specs.Record.{Record};
@@ -9,55 +9,52 @@ ghost use Rattle.desk.specs.Parts.{OfRecord, SheetOfRecord, Printed, HaveEntries
 
 use listing;
 use machine;
+use print::Page;
 use sheet::Sheet;
 use totals;
 
 // `class N` and `lines N`.
-fn put_heads(out: &mut [u8], at: usize, size: u64, count: u64) -> usize
-    requires { at + heads_room ≤ length out.old }
-    ensures { Wrote out.old at (heads size count) result out.new }
+fn put_heads(page: &mut Page, size: u64, count: u64)
+    requires { HasRoom page.old heads_room }
+    ensures { Puts page.old page.new (heads size count) }
 {
-    machine::put_pair(out, at, b"class ", size, b"\nlines ", count)
+    machine::put_both(page, b"class ", size, b"\nlines ", count);
 }
 
 // A line of the list: pattern and time.
-fn put_line(out: &mut [u8], at: usize, m: usize, b: usize, seconds: u64) -> usize
+fn put_line(page: &mut Page, m: usize, b: usize, seconds: u64)
     requires m_le_most_marks { m ≤ most_marks }
-    requires line_room_in_bounds { at + line_room ≤ length out.old }
-    ensures { Wrote out.old at (box_line m b seconds) result out.new }
+    requires has_room { HasRoom page.old line_room }
+    ensures { Puts page.old page.new (box_line m b seconds) }
 {
-    let x = print::put_pattern(out, at, m, b);
-    let y = ground::put_byte(out, x, b' ');
-    let z = print::put_time(out, y, seconds);
-    ground::put_byte(out, z, b'\n')
+    page.put_pattern(m, b);
+    page.put_byte(b' ');
+    page.put_time(seconds);
+    page.put_byte(b'\n');
 }
 
 // The lines of the list, with what the table keeps of each.
-fn put_lines(out: &mut [u8], at: usize, m: usize, held: &[u32], list: &[u8]) -> usize
+fn put_lines(page: &mut Page, m: usize, held: &[u32], list: &[u8])
     requires m_le_most_marks { m ≤ most_marks }
     requires have_entries { HaveEntries list.now held.now }
-    requires list_in_bounds { at + line_room * length list.now ≤ length out.old }
-    ensures upper_bound { result ≤ at + line_room * length list.now }
-    ensures wrote { Wrote out.old at (box_lines m (entry held.now) list.now) result out.new }
+    requires has_room { HasRoom page.old (line_room * length list.now) }
+    ensures short { page.new.len ≤ page.old.len + line_room * length list.now }
+    ensures lines { Puts page.old page.new (box_lines m (entry held.now) list.now) }
 {
-    let mut next = at;
-    let mut i: usize = 0;
-    while i < list.len() {
-        let b = ground::byte(list[i]);
-        next = put_line(out, next, m, b, ground::wide(held[b]));
-        i += 1;
+    for line in list {
+        let b = usize::from(*line);
+        put_line(page, m, b, u64::from(held[b]));
     }
-    next
 }
 
 // `total` and the time.
-fn put_total(out: &mut [u8], at: usize, seconds: u64) -> usize
-    requires { at + line_room ≤ length out.old }
-    ensures { Wrote out.old at (last_line seconds) result out.new }
+fn put_total(page: &mut Page, seconds: u64)
+    requires { HasRoom page.old line_room }
+    ensures { Puts page.old page.new (last_line seconds) }
 {
-    let a = ground::put(out, at, b"total ");
-    let b = print::put_time(out, a, seconds);
-    ground::put_byte(out, b, b'\n')
+    page.put(b"total ");
+    page.put_time(seconds);
+    page.put_byte(b'\n');
 }
 
 // The result of a sheet that was worked out afresh from a record: no call that reads it is refused (`never_refused`), and no 0 stands for a refusal.
@@ -71,7 +68,9 @@ pub fn result(out: &mut [u8], at: usize, sheet: &Sheet) -> usize
     let count = listing::list(sheet, &mut area).unwrap_or(0);
     let total = totals::total(sheet).unwrap_or(0);
     let n = count as usize;
-    let a = put_heads(out, at, size, count);
-    let b = put_lines(out, a, sheet.marks, &sheet.held, &area[..n]);
-    put_total(out, b, total)
+    let mut page = Page::behind(out, at);
+    put_heads(&mut page, size, count);
+    put_lines(&mut page, sheet.marks, &sheet.held, &area[..n]);
+    put_total(&mut page, total);
+    page.len
 }

@@ -8,7 +8,6 @@ use lib.ListN.{length, take}
 use Rattle.machine.specs.Answers.{OneAnswer}
 use Rattle.machine.specs.Pieces.{Position, in-line, start, line_in, Takes, none, FinishedBy}
 use Rattle.machine.specs.Programs.{Kind, In, Runs, Steps, Stops}
-use Rattle.machine.specs.Steps.{page_room}
 use Rattle.machine.specs.AtHand.{row_of, empty, typed, is_none, line_cut_off, cut, cut_of}
 use Rattle.machine.specs.declared.line.Line.{Line}
 use Rattle.machine.proofs.AtHand.{typed_none, typed_number}

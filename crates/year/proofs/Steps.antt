@@ -6,7 +6,7 @@ use mathlib.Core.List.{List, []}
 use native.Mathlib.Omega.{arith}
 use lib.ListN.{replicate}
 use borrow.Author.Tests.{eq-eqb}
-use Rattle.std.specs.Prelude.{Option, Some, None, Result, Ok, Err}
+use Rattle.std.specs.Prelude.{Option, Some, None, Result, Err}
 use Rattle.ground.specs.Areas.{Wrote}
 use Rattle.ground.proofs.Areas.{wrote_none, wrote_text}
 use Rattle.ground.proofs.Cases.{clash}
@@ -24,7 +24,7 @@ use Rattle.histories.specs.Histories.{number_of, accepted, after, after_all}
 use Rattle.histories.proofs.Kept.{did_kept}
 use Rattle.histories.proofs.Afresh.{total_afresh}
 use Rattle.refusals.specs.declared.Refusal.{Refusal}
-use Rattle.refusals.specs.declared.Refusal.TheVariants.{Unreadable as CannotRead, Date as NoDate}
+use Rattle.refusals.specs.declared.Refusal.TheVariants.{Unreadable as CannotRead}
 use Rattle.machine.specs.Rows.{Row}
 use Rattle.machine.specs.Machine.{refusal, spoken}
 use Rattle.machine.specs.Steps.{page_room, SteppedBy, StoppedBy}
@@ -44,10 +44,10 @@ use Rattle.bookings.specs.Bookings.{undated, on, History, begun, calls, any, rec
 use Rattle.bookings.specs.Months.{Kept}
 use Rattle.bookings.proofs.Sequences.{marks_after}
 use Rattle.bookings.proofs.Bookings.{record_more, last_now, month_now, kept_good}
-use Rattle.bookings.proofs.After.{booked, not_booked, date_good, date_bad, record_undated, last_after_undated}
+use Rattle.bookings.proofs.After.{booked, not_booked, date_good, record_undated, last_after_undated}
 use Rattle.year.specs.Prints.{page, State, first, named, going, over, opening, names, nameless, opens, shut, stock, late, dated, unread, ended, Step, Stop, months}
-use Rattle.year.specs.States.{closed_before, booked_with, year_of, kind, In, Sensible, Stepped}
-use Rattle.year.specs.Parts.{beginning, closed_with, Holds, GoesOn, TotalsTo, PageLaid, Books, BooksUndated, BooksOnDay, SteppedTo, YearTaken, MarksTaken, LaterTaken, rows_room}
+use Rattle.year.specs.States.{closed_before, booked_with, year_of, kind, In, Stepped}
+use Rattle.year.specs.Parts.{beginning, closed_with, Holds, GoesOn, TotalsTo, PageLaid, Books, BooksUndated, BooksOnDay, SteppedTo, YearTaken, MarksTaken, LaterTaken}
 use Rattle.year.specs.declared.booked.Booked.{Booked}
 use Rattle.year.specs.declared.stages.Year.{Year}
 use Rattle.year.specs.declared.stages.Year.TheVariants.{Naming, Opening, Going, Over}

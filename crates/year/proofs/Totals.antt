@@ -14,6 +14,9 @@ use Rattle.tables.specs.Tables.{tab}
 use Rattle.tables.proofs.Entries.{tab-length, tab-entry, tab_of, tab_ext}
 use Rattle.ground.specs.Texts.{ascii}
 use Rattle.print.specs.Texts.{clock}
+use Rattle.print.specs.Pages.{Puts}
+use Rattle.print.specs.declared.page.Page.{Page}
+use Rattle.print.proofs.Pages.{puts_then, puts_text}
 use Rattle.print.proofs.Digits.{time_room}
 use Rattle.dates.specs.Texts.{digits}
 use Rattle.ground.proofs.Figures.{figures-length}
@@ -118,3 +121,7 @@ row_length m s l =
 pub rows_more : (f : ℕ → ℕ) (n : ℕ) → month_rows f (n + 1) ≡ month_rows f n ++ month_row (n + 1) (f (n + 1))
 unfolding month_rows
 rows_more f n = rw (add-one n)
+
+-- one row more on a page
+pub row_put : (f : ℕ → ℕ) (n : ℕ) {p q s : Page} {m x : ℕ} → m ≡ n + 1 → x ≡ f (n + 1) → Puts p q (month_rows f n) → Puts q s (month_row m x) → Puts p s (month_rows f (n + 1))
+row_put f n e d p q = puts_text (sym (rows_more f n)) (puts_then p (puts_text (ap₂ month_row e d) q))

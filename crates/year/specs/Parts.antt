@@ -60,7 +60,7 @@ pub record Books (answer : Result (Unit {0}) Refusal) (y : Booked) (number : ℕ
 abbrev pub BooksUndated : Booked → Call → Result (Unit {0}) Refusal → Booked → Type 0
 BooksUndated old c answer now =
     ((h : History) → Holds old true h → Books answer now 10 true h)
-        × ((h : History) → Holds old false h → Books answer now (booking_number h (undated c)) false (after_booking h (undated c)))
+    × ((h : History) → Holds old false h → Books answer now (booking_number h (undated c)) false (after_booking h (undated c)))
 
 abbrev pub BooksOnDay : Booked → Date → Call → Result (Unit {0}) Refusal → Booked → Type 0
 BooksOnDay old d c answer now = (b : Bool) (h : History) → Holds old b h → Books answer now (booking_number h (on d c)) true (after_booking h (on d c))

@@ -7,6 +7,7 @@ use crate::page;
 use changes;
 use changes::Call;
 use dates::Date;
+use print::Page;
 use refusals::Refusal;
 use sheet::Sheet;
 use totals;
@@ -99,6 +100,8 @@ impl Booked {
         ensures { PageLaid self.now out.old at result out.new }
     {
         let totals = self.totals_to(13);
-        page::put_rows(out, at, &totals)
+        let mut page = Page::behind(out, at);
+        page::put_rows(&mut page, &totals);
+        page.len
     }
 }

@@ -41,7 +41,7 @@ impl Year {
         }
     }
 
-    // Line 2 has ended.
+    // Line 2 has ended. The desk's line 1 reads alike, but leads to its own stages: one function for both would take each of them as a closure.
     fn marks_line(&mut self, year: usize, line: &Line, out: &mut [u8]) -> usize
         requires { page_room ≤ length out.old }
         ensures { MarksTaken year line.now.number (row_of line.now) out.old self.new result out.new }

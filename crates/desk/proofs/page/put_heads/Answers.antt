@@ -4,4 +4,4 @@ use Rattle.desk.proofs.page.put_heads.Goals as goal
 
 pub returns : goal.returns
 unfolding heads
-returns c = c.put_pair.ensures
+returns c = c.put_both.ensures

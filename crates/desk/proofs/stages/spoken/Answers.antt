@@ -1,9 +1,8 @@
 -- Nothing, or the refusal by its number.
 use mathlib.Core.Path.{sym, ap, ◌∙◌}
-use Rattle.machine.specs.Machine.{refusal, spoken as spoken_text}
+use Rattle.machine.specs.Machine.{refusal}
 use Rattle.ground.proofs.Areas.{wrote_none, wrote_text}
 use Rattle.refusals.proofs.Settled.{never_done}
-use Rattle.desk.specs.Parts.{answer_number}
 use Rattle.desk.proofs.Steps.{spoken_refusal}
 use Rattle.desk.proofs.stages.spoken.Goals as goal
 

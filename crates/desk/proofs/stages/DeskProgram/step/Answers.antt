@@ -18,8 +18,8 @@ pub returns-after-order_of : goal.returns-after-order_of
 returns-after-order_of c =
     let short = answer_short c.args.line.now.number c.match-order_of.answer c.spoken.ensures (omega arith) in
     step_going c.in-Going.is (λ r of. elim c.match-order_of.branch [
-      in-Make w ↦ later_made of c.order_of.ensures c.spoken.ensures short w.in-Make.is w.did-answer.ensures.answer w.answer-is w.self-is
-    | in-Unreadable w ↦ later_unread of c.order_of.ensures c.spoken.ensures short w.in-Unreadable.is w.answer-is w.self-is
+      | in-Make w ↦ later_made of c.order_of.ensures c.spoken.ensures short w.in-Make.is w.did-answer.ensures.answer w.answer-is w.self-is
+      | in-Unreadable w ↦ later_unread of c.order_of.ensures c.spoken.ensures short w.in-Unreadable.is w.answer-is w.self-is
     ])
 
 pub returns-in-Over : goal.returns-in-Over

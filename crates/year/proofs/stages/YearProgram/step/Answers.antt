@@ -24,11 +24,11 @@ pub returns-after-slip_of : goal.returns-after-slip_of
 returns-after-slip_of c =
     let short = answer_short c.args.line.now.number c.match-slip_of.answer c.spoken.ensures (omega arith) in
     step_going c.in-Going.is (λ b h i. elim c.match-slip_of.branch [
-      in-Dated w ↦ later_dated i c.slip_of.ensures c.spoken.ensures short w.in-Dated.is w.on_day-answer.ensures w.answer-is w.self-is
-    | in-Plain-Make w ↦
-        later_plain i c.slip_of.ensures c.spoken.ensures short (w.in-Plain-Make.is ∙ ap Plain w.in-Plain-Make.field-0-is) w.undated-answer.ensures w.answer-is w.self-is
-    | in-Plain-Unreadable w ↦
-        later_unread i c.slip_of.ensures c.spoken.ensures short (w.in-Plain-Unreadable.is ∙ ap Plain w.in-Plain-Unreadable.field-0-is) w.answer-is w.self-is
+      | in-Dated w ↦ later_dated i c.slip_of.ensures c.spoken.ensures short w.in-Dated.is w.on_day-answer.ensures w.answer-is w.self-is
+      | in-Plain-Make w ↦
+          later_plain i c.slip_of.ensures c.spoken.ensures short (w.in-Plain-Make.is ∙ ap Plain w.in-Plain-Make.field-0-is) w.undated-answer.ensures w.answer-is w.self-is
+      | in-Plain-Unreadable w ↦
+          later_unread i c.slip_of.ensures c.spoken.ensures short (w.in-Plain-Unreadable.is ∙ ap Plain w.in-Plain-Unreadable.field-0-is) w.answer-is w.self-is
     ])
 
 pub returns-in-Over : goal.returns-in-Over
