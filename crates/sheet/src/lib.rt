@@ -64,7 +64,8 @@ pub fn marks_ok(m: usize) -> bool
     1 <= m && m <= Sheet::MOST_MARKS
 }
 
-// The table of the sums over boxes of what each combination has of its own.
+// The table of the sums over boxes of what each combination has of its own. m stays a number: a sheet may hold any, as C lends it, so that a type for
+// `m <= most_marks` would be made anew in each call.
 fn table(m: usize, own: &[u32]) -> [u32; Sheet::ENTRIES]
     requires { (m ≤ most_marks) × Addable m own.now }
     ensures { result ≡ afresh entries m (entry own.now) }
