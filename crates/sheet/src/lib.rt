@@ -75,7 +75,7 @@ fn table(m: usize, own: &[u32]) -> [u32; Sheet::ENTRIES]
     t
 }
 
-// How a combination stands when a sheet is opened.
+// How a combination stands when a sheet is opened. Marks and profile go as two arguments, here and below, as `breaks` and `opened_under` take them.
 fn opened_as(m: usize, profile: Profile, c: usize) -> Standing
     ensures { result ≡ cond (breaks m profile c) Either Out }
 {
@@ -104,6 +104,7 @@ impl Sheet {
     {}
 
     // The sheet worked out afresh from what each combination adds to the outside counts and to the either counts, and the seconds that it holds.
+    // The three lists stand apart, as in `sheet_from`, which theorems name.
     // Three lists, as an opening and the sections of a form give them; a struct of them would be made for this call alone.
     pub fn afresh(m: usize, profile: Profile, outs: &[u32], eithers: &[u32], times: &[u32]) -> Sheet
         requires { (m ≤ most_marks) × Addable m outs.now × Addable m eithers.now × Addable m times.now }
