@@ -9,6 +9,7 @@ ghost use Rattle.desk.specs.Parts.{OfRecord, SheetOfRecord, Printed, HaveEntries
 
 use listing;
 use machine;
+use print::Page;
 use sheet::Sheet;
 use totals;
 
@@ -26,10 +27,12 @@ fn put_line(out: &mut [u8], at: usize, m: usize, b: usize, seconds: u64) -> usiz
     requires line_room_in_bounds { at + line_room ≤ length out.old }
     ensures { Wrote out.old at (box_line m b seconds) result out.new }
 {
-    let x = print::put_pattern(out, at, m, b);
-    let y = ground::put_byte(out, x, b' ');
-    let z = print::put_time(out, y, seconds);
-    ground::put_byte(out, z, b'\n')
+    let mut page = Page::behind(out, at);
+    page.put_pattern(m, b);
+    page.put_byte(b' ');
+    page.put_time(seconds);
+    page.put_byte(b'\n');
+    page.len
 }
 
 // The lines of the list, with what the table keeps of each.
@@ -55,9 +58,11 @@ fn put_total(out: &mut [u8], at: usize, seconds: u64) -> usize
     requires { at + line_room ≤ length out.old }
     ensures { Wrote out.old at (last_line seconds) result out.new }
 {
-    let a = ground::put(out, at, b"total ");
-    let b = print::put_time(out, a, seconds);
-    ground::put_byte(out, b, b'\n')
+    let mut page = Page::behind(out, at);
+    page.put(b"total ");
+    page.put_time(seconds);
+    page.put_byte(b'\n');
+    page.len
 }
 
 // The result of a sheet that was worked out afresh from a record: no call that reads it is refused (`never_refused`), and no 0 stands for a refusal.

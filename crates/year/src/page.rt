@@ -4,8 +4,7 @@ ghost use Rattle.ground.specs.Areas.{Wrote};
 ghost use Rattle.year.specs.Prints.{month_row, month_rows};
 ghost use Rattle.year.specs.Parts.{closed_with, month_in, row_room};
 
-use dates;
-use ground;
+use print::Page;
 
 // The months from the first of these on have this total, up to the second, which does not.
 pub fn close_months(totals: [u64; 12], from: usize, to: usize, total: u64) -> [u64; 12]
@@ -27,10 +26,12 @@ fn put_row(out: &mut [u8], at: usize, month: usize, seconds: u64) -> usize
     requires row_room_in_bounds { at + row_room ≤ length out.old }
     ensures { Wrote out.old at (month_row month seconds) result out.new }
 {
-    let a = dates::put_two(out, at, month);
-    let b = ground::put_byte(out, a, b' ');
-    let c = print::put_time(out, b, seconds);
-    ground::put_byte(out, c, b'\n')
+    let mut page = Page::behind(out, at);
+    page.put_two(month as u64);
+    page.put_byte(b' ');
+    page.put_time(seconds);
+    page.put_byte(b'\n');
+    page.len
 }
 
 // A row for each month.
