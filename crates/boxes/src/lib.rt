@@ -105,6 +105,7 @@ fn double(xs: &mut [u16; 256], n: usize, more: u16)
     ensures { Doubled n more xs.old xs.new }
 {
     let (first, rest) = xs.split_at_mut(n);
+    // by its number: with `zip` over `rest.iter_mut()` the proof didn't close, as nothing is known then of what `rest` has become
     for (t, x) in first.iter().enumerate() {
         rest[t] = *x + more;
     }
@@ -116,6 +117,7 @@ pub fn all_through(m: usize, c: usize) -> [u16; 256]
     ensures { AllThrough m c result }
 {
     let mut all = [0u16; 256];
+    // `as`, here and below: each fits, and a `try_from` that can't fail is no plainer
     all[0] = single(m, c) as u16;
     for i in 0..m {
         let more = (2 - mark(c, i)) * power3(i);

@@ -202,6 +202,11 @@ unfolding fits_amount
 amount_fits_by true d t b = refl
 amount_fits_by false d t b = refl
 
+pub amount_bounds : (m : ℕ) (more : Bool) (d : ℕ) (t : List ℕ) (b : ℕ) → entry t b < 2 ^ 32
+    → fits_moved m (amount_shift more d) t (cond more most_held 4294967295) 0 b ≡ fits_amount more d t b
+amount_bounds m true d t b l = room_bounds m (Up d) t b l ∙ amount_fits_by true d t b
+amount_bounds m false d t b l = room_bounds m (Down d) t b l ∙ amount_fits_by false d t b
+
 pub amount_judged : (m c : ℕ) (more : Bool) (d : ℕ) (t : List ℕ) → touched m c (has_room (amount_shift more d) t) ≡ touched m c (fits_amount more d t)
 amount_judged m c more d t = touched_ext m c _ _ (λ b h. amount_fits_by more d t b)
 

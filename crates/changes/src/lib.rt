@@ -58,7 +58,7 @@ pub fn did(sheet: &mut Sheet, call: Call) -> Result<(), Refusal>
     Ok(())
 }
 
-// Into the class.
+// Into the class. Sheet and combination stand side by side in five calls, as docs/CONTRACTS.md promises them.
 pub fn enter(sheet: &mut Sheet, c: usize) -> Result<(), Refusal>
     ensures answer { answer_of result sheet.new ≡ did_of most_marks sheet.old (Change In c) }
     ensures kept { OnErr result (sheet.new ≡ sheet.old) }

@@ -1,11 +1,11 @@
 // 01's order of tests: whether a call that changes a sheet is refused, and why; and else the move that it comes to.
-ghost use Rattle.std.specs.Prelude.{◌≡◌, true, cond, ◌&&◌, ltb, ◌<◌, IfOk, IfErr};
+ghost use Rattle.std.specs.Prelude.{◌≡◌, true, ◌&&◌, ltb, ◌<◌, IfOk, IfErr};
 ghost use Rattle.boxes.specs.Boxes.{single};
 ghost use Rattle.tables.specs.Tables.{touched};
 ghost use Rattle.tables.specs.Parts.{Over};
 ghost use Rattle.classes.specs.Standings.{tells, is_either};
 ghost use Rattle.classes.specs.declared.Standing.TheVariants.{Either};
-ghost use Rattle.sheet.specs.Limits.{most_marks, entries, most_held, amount_ok};
+ghost use Rattle.sheet.specs.Limits.{most_marks, entries, amount_ok};
 ghost use Rattle.sheet.specs.Sound.{own_in};
 ghost use Rattle.sheet.specs.Record.{outside_counts, either_counts, held_seconds};
 ghost use Rattle.changes.specs.Parts.{counts_fit_after, has_room, most_after, Known, Unknown, number_in};

@@ -68,7 +68,8 @@ impl From<Result<Option<(Fault, usize)>, Refusal>> for Verdict {
     }
 }
 
-// The index of the first number that is no box over m marks.
+// The index of the first number that is no box over m marks. m stays a number in the parts of `judged`, and the sets go beside it: a struct of both would
+// be opened in each, and `no_box` needs no sets.
 fn no_box(m: usize, list: &[u8]) -> Option<usize>
     requires { m ≤ set_marks }
     ensures { Sought list.now (NoBox m list.now) result }
@@ -128,16 +129,17 @@ fn judged(m: usize, told: Bits, list: &[u8]) -> Result<(), (Fault, usize)>
     Ok(())
 }
 
-// The first fault of a list for a sheet whose class table is sound; none where it fits.
+// The first fault of a list for a sheet whose class table is sound; none where it fits. It stands beside `check`, which tests first: docs/CONTRACTS.md
+// promises both, and a sheet that was just read is tested by none.
 pub fn check_sound(sheet: &Sheet, list: &[u8]) -> Option<(Fault, usize)>
     requires { ClassReady most_marks sheet.now }
     ensures { Checked most_marks sheet.now list.now (finding_of (Ok result)) }
 {
-    let told = listing::class_bits(sheet);
+    let told = listing::class_bits(sheet.marks, &sheet.outside, &sheet.either);
     judged(sheet.marks, told, list).err()
 }
 
-// Whether the list fits the sheet's class, and else its first fault.
+// Whether the list fits the sheet's class, and else its first fault. Why its test is its own, `class_size` of `sheet` tells.
 pub fn check(sheet: &Sheet, list: &[u8]) -> Result<Option<(Fault, usize)>, Refusal>
     ensures found { Checked most_marks sheet.now list.now (finding_of result) }
     ensures refused { IfErr result (λ e. e ≡ Refusal.Spoiled) }

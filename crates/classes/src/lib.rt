@@ -84,7 +84,7 @@ impl Counts<'_> {
     fn each_tells(&self) -> bool
         ensures { Decides result ((c : ℕ) → c < 2 ^ self.now.marks → own self.now.marks self.now.outside.now c + own self.now.marks self.now.either.now c ≤ 1) }
     {
-        // not by `all`: what its closure says of each combination didn't give what holds of all
+        // `(0..n).all(..)` was tried, and its proof didn't close: what holds of all didn't follow from what its closure says of each
         for c in 0..boxes::power2(self.marks) {
             if !self.tells_one(c) {
                 return false;
@@ -106,7 +106,7 @@ impl Counts<'_> {
     fn obeys(&self, profile: Profile) -> bool
         ensures { Decides result ((c : ℕ) → c < 2 ^ self.now.marks → breaks self.now.marks profile c ≡ true → tells Either (own self.now.marks self.now.outside.now c) (own self.now.marks self.now.either.now c) ≡ true) }
     {
-        // a `for`, as in `each_tells`
+        // by `for`, for the reason that `each_tells` gives
         for c in 0..boxes::power2(self.marks) {
             if profile.breaks(self.marks, c) && !self.stands(c, Standing::Either) {
                 return false;
@@ -127,7 +127,7 @@ impl Counts<'_> {
         requires { TableOver self.now.marks held.now }
         ensures { Decides result (Apart self.now.marks self.now.outside.now self.now.either.now held.now) }
     {
-        // a `for`, as in `each_tells`
+        // by `for`, for the reason that `each_tells` gives
         for c in 0..boxes::power2(self.marks) {
             if 0 < held[boxes::single(self.marks, c)] && self.stands(c, Standing::Either) {
                 return false;

@@ -74,7 +74,8 @@ fn certify(
     known.minus = weight_of(room, &weights.minus);
 }
 
-// By weights that are proposed, and checked here.
+// By weights that are proposed, and checked here. m stays a number, as `seek` and `listing` have it: a type for `m <= set_marks` would be made here alone
+// and opened at once.
 pub fn weighed(
     m: usize,
     sets: &[u32; 243],

@@ -23,10 +23,6 @@ digits_more k n d h =
     let r : (n * 10 + d) % 10 ≡ d = omega arith in
     ap₂ (λ (a b : ℕ). digits k a ++ (48 + b) ∷ []) q r
 
-pub digits_two : (n : ℕ) → n < 100 → digits 2 n ≡ (48 + n / 10) ∷ (48 + n % 10) ∷ []
-unfolding figures
-digits_two n h = let e : n / 10 % 10 ≡ n / 10 = omega arith in ap (λ (a : ℕ). (48 + a) ∷ (48 + n % 10) ∷ []) e
-
 -- what is read so far: the first i bytes write a number
 
 pub writes_none : (part : List ℕ) → Writes 0 (take 0 part) 0

@@ -6,5 +6,5 @@ mod digits;
 mod reading;
 
 pub use date::{Date, days_in, is_leap};
-pub use digits::{put_two, read_number};
+pub use digits::read_number;
 pub use reading::read_date;

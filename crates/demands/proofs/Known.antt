@@ -56,7 +56,7 @@ ends_early =
 
 -- the last number is no box, whatever the first two are
 nine : Holds (drawn 2 (1 ∷ 2 ∷ 3 ∷ []) (5 ∷ 5 ∷ 9 ∷ []) (Faulty NoBox 2))
-nine = no_box_at 2 (among (1 ∷ 2 ∷ 3 ∷ [])) (among (1 ∷ 2 ∷ 3 ∷ [])) (5 ∷ 5 ∷ 9 ∷ []) 2 (record { inside = omega arith; none_before = before; here = λ h. omega arith }) (omega arith)
+nine = no_box_at 2 (among (1 ∷ 2 ∷ 3 ∷ [])) (among (1 ∷ 2 ∷ 3 ∷ [])) (5 ∷ 5 ∷ 9 ∷ []) 2 (record { inside = omega arith; none_before = before; here = omega arith })
   where
     before : (j : ℕ) → j < 2 → 9 ≤ get_or (5 ∷ 5 ∷ 9 ∷ []) j 0 → ⊥
     before zero h k = omega arith

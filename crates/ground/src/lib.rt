@@ -1,9 +1,7 @@
-// What every layer uses: numbers in a wider type, texts compared, and texts laid in a lent area.
+// What every layer uses: numbers in a wider type, and texts laid in a lent area.
 #![tactic(auto)]
 
 ghost use Rattle.std.specs.Prelude.{◌≡◌, [], ◌∷◌, ◌+◌, ◌≤◌, ◌<◌, ◌^◌, length};
-ghost use Rattle.ground.specs.Decides.{Decides};
-ghost use Rattle.ground.specs.Texts.{Begins};
 ghost use Rattle.ground.specs.Areas.{Wrote};
 
 // A byte as a number to count with.
@@ -18,30 +16,6 @@ pub fn wide(x: u32) -> u64
     ensures { (result ≡ x) × (result < 2 ^ 32) }
 {
     x as u64
-}
-
-// Whether a text begins with another.
-pub fn begins(text: &[u8], front: &[u8]) -> bool
-    ensures { Decides result (Begins front.now text.now) }
-{
-    let mut i: usize = 0;
-    while i < front.len() {
-        if text.len() <= i {
-            return false;
-        }
-        if front[i] != text[i] {
-            return false;
-        }
-        i += 1;
-    }
-    true
-}
-
-// Whether two texts are the same.
-pub fn same(text: &[u8], other: &[u8]) -> bool
-    ensures { Decides result (text.now ≡ other.now) }
-{
-    text.len() == other.len() && begins(text, other)
 }
 
 // Lays a byte at a place of a lent area, and answers the next place.
@@ -59,10 +33,8 @@ pub fn put(out: &mut [u8], at: usize, text: &[u8]) -> usize
     ensures { Wrote out.old at text.now result out.new }
 {
     let mut next = at;
-    let mut i: usize = 0;
-    while i < text.len() {
+    for i in 0..text.len() {
         next = put_byte(out, next, text[i]);
-        i += 1;
     }
     next
 }

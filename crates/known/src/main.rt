@@ -22,26 +22,26 @@ const ITS_LINES: [u8; 6] = [64, 176, 194, 198, 86, 120];
 
 // Why the run ends early: a call that must be done is refused, or nothing more can be printed.
 #[derive(Debug, Drop)]
-enum Failed {
-    Refused(Refusal),
+enum Ended {
+    Call(Refusal),
     Output(io::Error),
 }
 
-impl From<Refusal> for Failed {
-    fn from(refusal: Refusal) -> Failed {
-        Failed::Refused(refusal)
+impl From<Refusal> for Ended {
+    fn from(refusal: Refusal) -> Ended {
+        Ended::Call(refusal)
     }
 }
 
-impl From<Refused> for Failed {
-    fn from(refused: Refused) -> Failed {
-        Failed::Refused(refused.refusal)
+impl From<Refused> for Ended {
+    fn from(refused: Refused) -> Ended {
+        Ended::Call(refused.refusal)
     }
 }
 
-impl From<io::Error> for Failed {
-    fn from(e: io::Error) -> Failed {
-        Failed::Output(e)
+impl From<io::Error> for Ended {
+    fn from(e: io::Error) -> Ended {
+        Ended::Output(e)
     }
 }
 
@@ -72,7 +72,7 @@ fn print_list(rt: &impl Print, sheet: &Sheet, list: &[u8]) -> io::Result<()> {
 }
 
 // The list of a known sheet.
-fn known_sheet(rt: &impl Print, m: usize, class: &[u8]) -> Result<(), Failed> {
+fn known_sheet(rt: &impl Print, m: usize, class: &[u8]) -> Result<(), Ended> {
     let sheet = with_class(m, class)?;
     let mut area = listing::area();
     let n = listing::list(&sheet, &mut area)?;
@@ -84,7 +84,7 @@ fn known_sheet(rt: &impl Print, m: usize, class: &[u8]) -> Result<(), Failed> {
 }
 
 // 000's own lines, and which of the two lists is before the other.
-fn document(rt: &impl Print) -> Result<(), Failed> {
+fn document(rt: &impl Print) -> Result<(), Ended> {
     let sheet = with_class(5, &FUNCTION)?;
     print!(rt; "000")?;
     print_list(rt, &sheet, &ITS_LINES)?;
@@ -99,7 +99,7 @@ fn document(rt: &impl Print) -> Result<(), Failed> {
 }
 
 // Lists that others drew for the class of 1 to 3 over two marks.
-fn lists_that_others_drew(rt: &impl Print) -> Result<(), Failed> {
+fn lists_that_others_drew(rt: &impl Print) -> Result<(), Ended> {
     let sheet = with_class(2, &ONE_TO_THREE)?;
     let drawn: [&[u8]; 9] = [
         b"\x01\x05",
@@ -137,7 +137,7 @@ fn sample() -> Result<Sheet, Refusal> {
 }
 
 // The sample's stored bytes, and those of the sheet that is read from them.
-fn stored(rt: &impl Print) -> Result<(), Failed> {
+fn stored(rt: &impl Print) -> Result<(), Ended> {
     let mut area = [0u8; 64];
     let n = writing::write(&sample()?, &mut area)?;
     if let Some(form) = area.get(..n as usize) {
@@ -172,13 +172,10 @@ fn times_of_both_forms(rt: &impl Print) -> io::Result<()> {
 
 // The number of a call's answer: 0 when done.
 fn number(answer: Result<(), Refusal>) -> u64 {
-    match answer {
-        Ok(()) => 0,
-        Err(refusal) => refusal.number(),
-    }
+    answer.err().map_or(0, |refusal| refusal.number())
 }
 
-fn amounts(rt: &impl Print) -> Result<(), Failed> {
+fn amounts(rt: &impl Print) -> Result<(), Ended> {
     for d in [0, 1, 35_999, 36_000] {
         let mut sheet = Sheet::open(1)?;
         let answer = changes::receive(&mut sheet, 1, d);
@@ -188,7 +185,7 @@ fn amounts(rt: &impl Print) -> Result<(), Failed> {
 }
 
 // Receipts that end at 4,000,000,000 seconds, and one second more.
-fn limit(rt: &impl Print) -> Result<(), Failed> {
+fn limit(rt: &impl Print) -> Result<(), Ended> {
     let mut sheet = Sheet::open(1)?;
     for _ in 0..111_114 {
         changes::receive(&mut sheet, 1, 35_999)?;
@@ -200,7 +197,7 @@ fn limit(rt: &impl Print) -> Result<(), Failed> {
     Ok(())
 }
 
-fn main(rt: HostRuntime) -> Result<(), Failed> {
+fn main(rt: HostRuntime) -> Result<(), Ended> {
     known_sheet(&rt, 3, &ONE_TO_SIX)?;
     known_sheet(&rt, 5, &ALL)?;
     known_sheet(&rt, 5, &FUNCTION)?;

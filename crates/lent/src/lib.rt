@@ -87,7 +87,7 @@ fn kept(t: &[u32], line: u64) -> u64
     t.get(line as usize).copied().map_or(0, u64::from)
 }
 
-// The outside count of a line.
+// The outside count of a line. For each table a call of its own: one for all would switch on which table is meant.
 pub fn outside(sheet: &[u8], line: u64) -> Result<u64, Refusal>
     ensures { Tells (KeptAt outside_counts line) sheet.now (reply_of result) }
 {

@@ -2,7 +2,7 @@
 #![tactic(auto)]
 
 ghost use Rattle.std.specs.Prelude.{◌≡◌, ◌≢◌, ℕ, ◌≤◌, List, ◌++◌, MatchOption};
-ghost use Rattle.machine.specs.AtHand.{told, row_of};
+ghost use Rattle.machine.specs.AtHand.{row_of};
 ghost use Rattle.lines.specs.Words.{Opens, Asked, RowOpens, RowAsks};
 ghost use Rattle.lines.specs.Parts.{Patterned, Amounts, SaysOrNot};
 
@@ -119,7 +119,7 @@ pub fn read_marks(line: &[u8]) -> Option<usize>
 // What the line at hand asks for; one that is too long or cut off is unreadable. A generic function for this and `year_lines::slip_of` would be no shorter.
 pub fn order_of(line: &Line, m: usize) -> Order
     requires { m ≤ 8 }
-    ensures { RowAsks m (row_of (told line.now)) result }
+    ensures { RowAsks m (row_of line.now) result }
 {
     let Some(text) = line.text() else {
         return Order::Unreadable;
@@ -129,7 +129,7 @@ pub fn order_of(line: &Line, m: usize) -> Order
 
 // How many marks the line at hand asks for as line 1.
 pub fn first_of(line: &Line) -> Option<usize>
-    ensures { RowOpens (row_of (told line.now)) result }
+    ensures { RowOpens (row_of line.now) result }
 {
     let Some(text) = line.text() else {
         return None;

@@ -13,7 +13,7 @@ use Rattle.boxes.proofs.Numbers.{power_next}
 use Rattle.sets.specs.Sets.{has}
 use Rattle.sets.proofs.Bits.{has-and, has-zero, has_high, has_top, has_under}
 use Rattle.tables.specs.Tables.{own}
-use Rattle.sheet.specs.declared.Sheet.{Sheet}
+use Rattle.sheet.specs.Record.{sheet_with}
 use Rattle.sheet.proofs.Told.{told_in, told_not_out}
 use Rattle.listing.specs.Parts.{BitsOf}
 
@@ -77,11 +77,12 @@ both false x y = refl
 abbrev Zeros : ℕ → List ℕ → ℕ → Type 0
 Zeros m t u = has u ≡ (λ c. ltb c (2 ^ m) && inside m t c)
 
-pub bits_of : (s : Sheet) (x y : ℕ) → x < 2 ^ (2 ^ s.marks) → Zeros s.marks s.outside x → Zeros s.marks s.either y → BitsOf s (record { need = bit_and x y; room = x })
-bits_of s x y small hx hy = record {
+pub bits_of : (m : ℕ) (outside either : List ℕ) (x y : ℕ) → x < 2 ^ (2 ^ m) → Zeros m outside x → Zeros m either y
+    → BitsOf m outside either (record { need = bit_and x y; room = x })
+bits_of m outside either x y small hx hy = record {
   small = omega (arith, and_le_l x y);
-  need = fun_ext
-      (λ c. has-and c x y ∙ ap₂ (λ (f g : ℕ → Bool). f c && g c) hx hy ∙ both (ltb c (2 ^ s.marks)) (inside s.marks s.outside c) (inside s.marks s.either c)
-      ∙ sym (told_in s c));
-  room = hx ∙ fun_ext (λ c. sym (told_not_out s c));
+  need = λ p held. fun_ext
+      (λ c. has-and c x y ∙ ap₂ (λ (f g : ℕ → Bool). f c && g c) hx hy ∙ both (ltb c (2 ^ m)) (inside m outside c) (inside m either c)
+      ∙ sym (told_in (sheet_with m p outside either held) c));
+  room = λ p held. hx ∙ fun_ext (λ c. sym (told_not_out (sheet_with m p outside either held) c));
 }

@@ -30,6 +30,7 @@ fn zeros(m: usize, t: &[u32]) -> u32
     ensures { (result < 2 ^ (2 ^ m)) × (has result ≡ (λ c. ltb c (2 ^ m) && eqb (own m t.now c) 0)) }
 {
     let mut set = 0;
+    // the place in the table is worked out from c, so an iterator over the table counts nothing
     for c in 0..boxes::power2(m) {
         if t[boxes::single(m, c)] == 0 {
             set |= 1 << c;
@@ -39,13 +40,14 @@ fn zeros(m: usize, t: &[u32]) -> u32
 }
 
 // The sets that the counts tell: in are those with neither count, and those without an outside count are not out.
-pub fn class_bits(sheet: &Sheet) -> Bits
-    requires { sheet.now.marks ≤ most_marks }
-    ensures { BitsOf sheet.now result }
+// Two tables, as docs/CONTRACTS.md promises it of any two.
+pub fn class_bits(m: usize, outside: &[u32], either: &[u32]) -> Bits
+    requires { (m ≤ most_marks) × (entries ≤ length outside.now) × (entries ≤ length either.now) }
+    ensures { BitsOf m outside.now either.now result }
 {
-    let room = zeros(sheet.marks, &sheet.outside);
+    let room = zeros(m, outside);
     Bits {
-        need: room & zeros(sheet.marks, &sheet.either),
+        need: room & zeros(m, either),
         room,
     }
 }
@@ -73,7 +75,8 @@ fn lay(m: usize, told: Bits, area: &mut [u8]) -> usize
     k
 }
 
-// The list of a sheet whose class table is sound.
+// The list of a sheet whose class table is sound. It stands beside `list`, which tests first: docs/CONTRACTS.md promises both, and a sheet that was just
+// read is tested by none. The soundness is asked for: a sheet that C lends may be spoiled, so no type of it can hold that.
 pub fn list_sound(sheet: &Sheet, area: &mut [u8]) -> Result<u64, Refusal>
     requires { ClassReady most_marks sheet.now }
     ensures { Listed most_marks sheet.now area.old (value_of result) area.new }
@@ -81,12 +84,12 @@ pub fn list_sound(sheet: &Sheet, area: &mut [u8]) -> Result<u64, Refusal>
     if area.len() < lists::most_lines(sheet.marks) {
         return Err(Refusal::Room);
     }
-    let told = class_bits(sheet);
+    let told = class_bits(sheet.marks, &sheet.outside, &sheet.either);
     let k = lay(sheet.marks, told, area);
     Ok(k as u64)
 }
 
-// The shortest list of the sheet's class, in the lent area: its length.
+// The shortest list of the sheet's class, in the lent area: its length. Why its test is its own, `class_size` of `sheet` tells.
 pub fn list(sheet: &Sheet, area: &mut [u8]) -> Result<u64, Refusal>
     ensures { Listed most_marks sheet.now area.old (value_of result) area.new }
 {

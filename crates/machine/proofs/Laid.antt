@@ -19,17 +19,6 @@ pub wrote_three : {out o₁ o₂ o₃ : List ℕ} {at r₁ r₂ r₃ : ℕ} {a b
     → at + length a + length b + length c ≤ length out → Wrote out at (a ++ b ++ c) r₃ o₃
 wrote_three {a = a} {b = b} p q r h = wrote_then (wrote_then p q (omega arith)) r (omega (arith, length-append a b))
 
-pub wrote_four : {out o₁ o₂ o₃ o₄ : List ℕ} {at r₁ r₂ r₃ r₄ : ℕ} {a b c d : List ℕ} → Wrote out at a r₁ o₁ → Wrote o₁ r₁ b r₂ o₂ → Wrote o₂ r₂ c r₃ o₃
-    → Wrote o₃ r₃ d r₄ o₄ → at + length a + length b + length c + length d ≤ length out → Wrote out at (a ++ b ++ c ++ d) r₄ o₄
-wrote_four {a = a} {b = b} {c = c} p q r s h =
-    wrote_then (wrote_three p q r (omega arith)) s (omega (arith, length-append a b, length-append (a ++ b) c))
-
-pub wrote_five : {out o₁ o₂ o₃ o₄ o₅ : List ℕ} {at r₁ r₂ r₃ r₄ r₅ : ℕ} {a b c d e : List ℕ} → Wrote out at a r₁ o₁ → Wrote o₁ r₁ b r₂ o₂
-    → Wrote o₂ r₂ c r₃ o₃ → Wrote o₃ r₃ d r₄ o₄ → Wrote o₄ r₄ e r₅ o₅ → at + length a + length b + length c + length d + length e ≤ length out
-    → Wrote out at (a ++ b ++ c ++ d ++ e) r₅ o₅
-wrote_five {a = a} {b = b} {c = c} {d = d} p q r s t h =
-    wrote_then (wrote_four p q r s (omega arith)) t (omega (arith, length-append a b, length-append (a ++ b) c, length-append (a ++ b ++ c) d))
-
 -- where the area keeps its length, what was laid behind a text had room
 pub wrote_behind : {out o₁ o₂ : List ℕ} {r₁ r₂ : ℕ} {a b : List ℕ} → Wrote out 0 a r₁ o₁ → Wrote o₁ r₁ b r₂ o₂ → length o₁ ≡ length out → length o₂ ≡ length out
     → Wrote out 0 (a ++ b) r₂ o₂

@@ -3,10 +3,6 @@ use Rattle.std.specs.Prelude.{ℕ, suc, ◌+◌, ◌≤◌, Bool, false, true, c
 use Rattle.machine.specs.Rows.{most_bytes, Row, whole, spoiled}
 use Rattle.machine.specs.declared.line.Line.{Line}
 
--- for now
-abbrev pub told : Line → Line
-told l = l
-
 unfoldable pub row_of : Line → Row
 row_of l = cond l.long spoiled (whole (take l.len l.text))
 

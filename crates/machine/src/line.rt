@@ -2,6 +2,7 @@
 ghost use Rattle.std.specs.Prelude.{◌≡◌, ◌+◌, ◌<◌, ◌^◌, MatchOption};
 
 // Any numbers may stand here, a length beyond the bytes too: `next` and `cut_off` take any line (docs/CONTRACTS.md), and a type that holds its own length would ask more.
+// `long` is told beside them, as `pushed` and `row_of` (specs/AtHand) speak of it: a line of 40 bytes is none of 41.
 #[derive(Clone, Copy)]
 pub struct Line {
     pub number: u64,

@@ -3,7 +3,7 @@ ghost use Rattle.std.specs.Prelude.{◌++◌, ◌+◌, ◌≤◌, length};
 ghost use Rattle.ground.specs.Areas.{Wrote};
 ghost use Rattle.ground.specs.Texts.{ascii};
 ghost use Rattle.print.specs.Texts.{decimal};
-ghost use Rattle.machine.specs.Machine.{refusal as refusal_text, spoken as spoken_text};
+ghost use Rattle.machine.specs.Machine.{refusal as refusal_text};
 ghost use Rattle.print.specs.Pages.{Puts, HasRoom};
 ghost use Rattle.machine.specs.AtHand.{refusal_room};
 
@@ -47,15 +47,4 @@ pub fn refusal(out: &mut [u8], number: u64, answer: u64) -> usize
     let mut page = Page::new(out);
     put_refusal(&mut page, number, answer);
     page.len
-}
-
-// The same, where there is something to refuse.
-pub fn spoken(out: &mut [u8], number: u64, answer: u64) -> usize
-    requires { refusal_room ≤ length out.old }
-    ensures { Wrote out.old 0 (spoken_text number answer) result out.new }
-{
-    if answer == 0 {
-        return 0;
-    }
-    refusal(out, number, answer)
 }

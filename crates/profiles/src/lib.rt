@@ -5,7 +5,8 @@ ghost use Rattle.std.specs.Prelude.{◌≡◌, ℕ, ◌%◌, ◌^◌, ◌<◌, �
 ghost use Rattle.std.specs.Int.Bits.{bit_and};
 ghost use Rattle.profiles.specs.Profiles.{common, group_ok, may_follow, followed, profile_ok, one_on, breaks, settles, count_ok, profile_of, names_ok};
 
-// The groups of a sheet, each a number with a bit for each of its marks; a sheet may have none.
+// The groups of a sheet, each a number with a bit for each of its marks; a sheet may have none. It is no `Option`: `profile_of` and its theorems
+// tell none, one and two apart.
 #[derive(Clone, Copy, Debug, PartialEq, Eq)]
 pub enum Profile {
     None,
@@ -27,6 +28,7 @@ fn first_marks(m: usize) -> usize
 fn common(m: usize, a: usize, b: usize) -> usize
     ensures { result ≡ common m a b }
 {
+    // `as`: usize has no `From<u32>`, and a `try_from` that can't fail is no plainer
     (a & b & first_marks(m)).count_ones() as usize
 }
 

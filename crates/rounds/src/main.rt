@@ -30,18 +30,10 @@ fn tests_apart(m: usize, k: u64) -> u64 {
     (0..32).filter(|c| boxes::agrees(d, *c)).count() as u64
 }
 
-// The number of an answer: 0 when done.
-fn number(answer: Result<(), Refusal>) -> u64 {
-    match answer {
-        Ok(()) => 0,
-        Err(refusal) => refusal.number(),
-    }
-}
-
 // The answer, and a number of each table, so that no part of a sheet that a job made can be left out.
 fn seen(answer: Result<(), Refusal>, sheet: &Sheet, k: u64) -> u64 {
     let b = (k % 243) as usize;
-    number(answer)
+    answer.err().map_or(0, |refusal| refusal.number())
         ^ u64::from(sheet.outside[b])
         ^ u64::from(sheet.either[b])
         ^ u64::from(sheet.held[b])

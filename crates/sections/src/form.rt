@@ -5,7 +5,7 @@ ghost use Rattle.sheet.specs.Limits.{most_marks};
 use crate::fields::Fields;
 use refusals::Refusal;
 
-// What is left of a form of so many marks.
+// What is left of a stored form of so many marks. 01 calls it so, and the forms of running times too, which `times` has.
 #[derive(Clone, Copy)]
 pub struct Form<'a> {
     pub marks: usize,

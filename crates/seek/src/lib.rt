@@ -44,6 +44,7 @@ impl Search<'_> {
     }
 
     // Lays as many boxes as are left on all that is needed, inside the room: on the lowest combination that is not covered, and so on.
+    // Whether it could, a bool here and below: there is nothing to hand on, and an Option of nothing is no plainer.
     #[cycle(cover_try_boxes)]
     fn cover(&self, node: Node, area: &mut [u8]) -> bool
         requires node { IsOpen self.now.marks self.now.known.now.costs node }

@@ -64,7 +64,8 @@ pub fn marks_ok(m: usize) -> bool
     1 <= m && m <= Sheet::MOST_MARKS
 }
 
-// The table of the sums over boxes of what each combination has of its own.
+// The table of the sums over boxes of what each combination has of its own. m stays a number: a sheet may hold any, as C lends it, so that a type for
+// `m <= most_marks` would be made anew in each call.
 fn table(m: usize, own: &[u32]) -> [u32; Sheet::ENTRIES]
     requires { (m ≤ most_marks) × Addable m own.now }
     ensures { result ≡ afresh entries m (entry own.now) }
@@ -74,7 +75,7 @@ fn table(m: usize, own: &[u32]) -> [u32; Sheet::ENTRIES]
     t
 }
 
-// How a combination stands when a sheet is opened.
+// How a combination stands when a sheet is opened. Marks and profile go as two arguments, here and below, as `breaks` and `opened_under` take them.
 fn opened_as(m: usize, profile: Profile, c: usize) -> Standing
     ensures { result ≡ cond (breaks m profile c) Either Out }
 {
@@ -103,6 +104,7 @@ impl Sheet {
     {}
 
     // The sheet worked out afresh from what each combination adds to the outside counts and to the either counts, and the seconds that it holds.
+    // The three lists stand apart, as in `sheet_from`, which theorems name.
     // Three lists, as an opening and the sections of a form give them; a struct of them would be made for this call alone.
     pub fn afresh(m: usize, profile: Profile, outs: &[u32], eithers: &[u32], times: &[u32]) -> Sheet
         requires { (m ≤ most_marks) × Addable m outs.now × Addable m eithers.now × Addable m times.now }

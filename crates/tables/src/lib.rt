@@ -67,6 +67,7 @@ pub fn fits_at(m: usize, c: usize, by: Shift, t: &[u32], most: u64, each: u64) -
 {
     let all = boxes::all_through(m, c);
     for (k, b) in all[..boxes::power2(m)].iter().enumerate() {
+        // `as`: std has no `From` between these widths, and a `try_from` that can't fail is no plainer
         let size = boxes::power2(k.count_ones() as usize) as u64;
         if !by.fits(t[usize::from(*b)], most + each * size) {
             return false;
@@ -133,6 +134,7 @@ fn join(off: &[u32], on: &[u32], free: &mut [u32])
     requires few_each { (b : ℕ) → b < length free.old → entry off.now b + entry on.now b < 2 ^ 32 }
     ensures { AreSums off.now on.now free.new }
 {
+    // two slices by the number, as in `boxes::double`, where a `zip` over `iter_mut` was tried and its proof didn't close
     for (b, sum) in free.iter_mut().enumerate() {
         *sum = off[b] + on[b];
     }

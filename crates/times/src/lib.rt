@@ -103,7 +103,8 @@ fn two_digits(part: &[u8]) -> Result<(u64, &[u8]), &[u8]>
     Ok((tens * 10 + ones, end))
 }
 
-// What stands behind `H:MM:`, which make n minutes: two digits of seconds, and nothing behind them.
+// What stands behind `H:MM:`, which make n minutes: two digits of seconds, and nothing behind them. The parts behind the colon are told part and number
+// side by side: a struct of the two would be made for each and opened in each.
 fn seconds(part: &[u8], n: u64) -> Result<(u64, Form), &[u8]>
     requires { n ≤ 599 }
     ensures { Reads (Two (Ended Hours n)) part.now result }
@@ -167,7 +168,7 @@ fn form_number(f: Option<Form>) -> u64
     }
 }
 
-// The reply to any text.
+// The reply to any text, in the numbers that `vault_read_time` hands to C: 10 is that of `Unreadable` in 01's table.
 pub fn answer(text: &[u8]) -> Reading
     ensures { Answered text.now result }
 {

@@ -25,7 +25,7 @@ fn seconds_of(sheet: &Sheet, c: usize) -> u64
     u64::from(sheet.held[at])
 }
 
-// The total of a sound sheet.
+// The total of a sound sheet. It stands beside `total`, which tests first: docs/CONTRACTS.md promises both, and a sheet that was just read is tested by none.
 pub fn total_sound(sheet: &Sheet) -> u64
     requires { Ready most_marks sheet.now }
     ensures { result ≡ total_of (record_of sheet.now) }
@@ -37,7 +37,7 @@ pub fn total_sound(sheet: &Sheet) -> u64
     total
 }
 
-// The seconds held in the sheet's class.
+// The seconds held in the sheet's class. Why its test is its own, `class_size` of `sheet` tells.
 pub fn total(sheet: &Sheet) -> Result<u64, Refusal>
     ensures { Totalled most_marks sheet.now (value_of result) }
 {

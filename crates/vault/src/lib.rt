@@ -1,4 +1,5 @@
-// What each entry for C does, as a call of this library: it reads the lent sheet, makes one call on it, and writes what is left.
+// What each entry for C does, as a call of this library: it reads the lent sheet, makes one call on it, and writes what is left. Entries that differ in a call
+// alone stay apart, since the C interface names each (`vault_c`).
 #![tactic(auto)]
 
 ghost use Rattle.classes.specs.declared.Standing.TheVariants.{In, Out, Either};

@@ -35,7 +35,8 @@ fn offer(near: &mut First<Entering>, entering: Entering, size: f64) {
 }
 
 // What is first to weigh too much as the weights y lose more and more of the row u: a box that weighs more than 1, or a spare combination
-// that weighs more than nothing.
+// that weighs more than nothing. The two are weighed one by one: y is the simplex's, u was worked out for this step, and a struct of both would be opened
+// at once.
 fn nearest(room: &Room<'_>, y: &[f64; 32], u: &[f64; 32]) -> Option<Entering> {
     let mut v = [0.0; 243];
     room.weigh(y, &mut v);

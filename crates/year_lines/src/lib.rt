@@ -2,7 +2,7 @@
 #![tactic(auto)]
 
 ghost use Rattle.std.specs.Prelude.{◌≤◌};
-ghost use Rattle.machine.specs.AtHand.{told, row_of};
+ghost use Rattle.machine.specs.AtHand.{row_of};
 ghost use Rattle.year_lines.specs.Slips.{NamesYear, RowNames, Asked, RowAsks};
 ghost use Rattle.year_lines.specs.Parts.{DatedOr};
 
@@ -61,7 +61,7 @@ pub fn read(line: &[u8], m: usize) -> Slip
 
 // The year that the line at hand names as line 1; one that is too long or cut off names none.
 pub fn year_of(line: &Line) -> Option<usize>
-    ensures { RowNames (row_of (told line.now)) result }
+    ensures { RowNames (row_of line.now) result }
 {
     let Some(text) = line.text() else {
         return None;
@@ -72,7 +72,7 @@ pub fn year_of(line: &Line) -> Option<usize>
 // What the line at hand asks for behind line 2; one that is too long or cut off is unreadable. A generic function for this and `lines::order_of` would be no shorter.
 pub fn slip_of(line: &Line, m: usize) -> Slip
     requires { m ≤ 8 }
-    ensures { RowAsks m (row_of (told line.now)) result }
+    ensures { RowAsks m (row_of line.now) result }
 {
     let Some(text) = line.text() else {
         return Slip::Plain(Order::Unreadable);

@@ -6,4 +6,5 @@ use Rattle.checking.proofs.check_sound.Goals as goal
 pub returns : goal.returns
 returns c =
     let told = c.class_bits-told.ensures in
-    rw c.err.ensures.value (checked_found _ c.requires (judged_told told.need told.room c.judged.ensures))
+    let sheet = c.args.sheet.now in
+    rw c.err.ensures.value (checked_found _ c.requires (judged_told (told.need sheet.profile sheet.held) (told.room sheet.profile sheet.held) c.judged.ensures))
