@@ -17,9 +17,6 @@ use Rattle.lists.specs.Compared.{HandsBack}
 pub record RestSays (a b rest_a rest_b : List ℕ) : Type 0 where
   pub says : Smaller a b ↔ Smaller rest_a rest_b
 
-pub rest_start : (a b : List ℕ) → RestSays a b a b
-rest_start a b = record { says = (λ h. h, λ h. h) }
-
 -- lists of another length
 pub longer : (a b : List ℕ) → (length a ≡ length b → ⊥) → Decides (ltb (length a) (length b)) (Before a b)
 longer a b n = record {

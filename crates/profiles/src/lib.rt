@@ -33,6 +33,7 @@ fn common(m: usize, a: usize, b: usize) -> usize
 }
 
 // Whether a sheet of m marks may have a group.
+#[tactic(auto, unfolding(crate::specs::Profiles::group_ok))]
 fn group_ok(m: usize, g: usize) -> bool
     requires { m ≤ 8 }
     ensures { result ≡ group_ok m g }
@@ -41,6 +42,7 @@ fn group_ok(m: usize, g: usize) -> bool
 }
 
 // Whether exactly one mark of the group is on.
+#[tactic(auto, unfolding(crate::specs::Profiles::one_on))]
 fn one_on(m: usize, g: usize, c: usize) -> bool
     ensures { result ≡ one_on m g c }
 {
@@ -48,6 +50,7 @@ fn one_on(m: usize, g: usize, c: usize) -> bool
 }
 
 // Whether a profile can have so many groups.
+#[tactic(auto, unfolding(crate::specs::Profiles::count_ok))]
 pub fn count_ok(n: usize) -> bool
     ensures { result ≡ count_ok n }
 {
