@@ -36,7 +36,7 @@ impl Year {
             }
             None => {
                 *self = Year::Over;
-                machine::refusal(out, line.number, 10)
+                machine::refusal(out, line.number, Refusal::Unreadable(0).number())
             }
         }
     }
