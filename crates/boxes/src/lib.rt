@@ -5,7 +5,8 @@ ghost use Rattle.std.specs.Prelude.{◌≡◌, ◌+◌, ◌*◌, ◌/◌, ◌%�
 ghost use Rattle.boxes.specs.Boxes.{contains, through, single};
 ghost use Rattle.boxes.specs.Parts.{masked, Apart, Doubles, Doubled, AllThrough};
 
-// The number of combinations of m marks.
+// The number of combinations of m marks. Marks are a plain number, here and above: 01's calls and a sheet's field take any, and docs/CONTRACTS.md names the
+// calls that ask for `m ≤ 8`, of which a type for them would ask more.
 pub fn power2(m: usize) -> usize
     requires { m ≤ 8 }
     ensures { (result ≡ 2 ^ m) × (result ≤ 256) }
@@ -99,7 +100,7 @@ fn mark(c: usize, i: usize) -> usize
     (c >> i) & 1
 }
 
-// Behind the first n numbers the same again, each by so much more.
+// Behind the first n numbers the same again, each by so much more; n is where these begin, and no length of a buffer.
 fn double(xs: &mut [u16; 256], n: usize, more: u16)
     requires { Doubles n more xs.old }
     ensures { Doubled n more xs.old xs.new }

@@ -21,7 +21,7 @@ pub enum Standing {
 }
 
 impl Standing {
-    // What a combination of the standing adds to the outside counts.
+    // What a combination of the standing adds to the outside counts. This and the next are columns of one table: a pair would be taken apart by each caller.
     pub fn outs(self) -> u32
         ensures { result ≡ outs self }
     {
@@ -62,7 +62,7 @@ pub struct Counts<'a> {
 }
 
 impl Counts<'_> {
-    // Whether the own counts of a combination are those of a standing.
+    // Whether the own counts of a combination are those of a standing. c is a plain number, as in 01's calls, where any may come.
     fn stands(&self, c: usize, to: Standing) -> bool
         requires { c < 2 ^ self.now.marks }
         ensures { result ≡ tells to (own self.now.marks self.now.outside.now c) (own self.now.marks self.now.either.now c) }

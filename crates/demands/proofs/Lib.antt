@@ -10,3 +10,4 @@ pub mod Standings
 pub mod Carriers
 pub mod Above
 pub mod Known
+pub mod Sessions

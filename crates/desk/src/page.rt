@@ -21,7 +21,7 @@ fn put_heads(page: &mut Page, size: u64, count: u64)
     machine::put_both(page, b"class ", size, b"\nlines ", count);
 }
 
-// A line of the list: pattern and time.
+// A line of the list: pattern and time. A row of a year has a month where this has a pattern, so it lays itself.
 fn put_line(page: &mut Page, m: usize, b: usize, seconds: u64)
     requires m_le_most_marks { m ≤ most_marks }
     requires has_room { HasRoom page.old line_room }

@@ -46,7 +46,7 @@ pub fn spoken(out: &mut [u8], number: u64, answer: Result<(), Refusal>) -> usize
 }
 
 impl Desk {
-    // Line 1 has ended.
+    // Line 1 has ended. The room is that of `Program::step`: an area is lent anew for each line, so no type holds it.
     fn first_line(&mut self, line: &Line, out: &mut [u8]) -> usize
         requires { page_room ≤ length out.old }
         ensures { FirstTaken line.now.number (row_of line.now) out.old self.new result out.new }
@@ -71,6 +71,7 @@ impl Program for Desk {
         Desk::Opening
     }
 
+    // A match, since `matches!` would let a further stage pass unasked.
     fn is_over(&self) -> bool {
         match self {
             Desk::Over => true,

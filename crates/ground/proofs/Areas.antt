@@ -1,4 +1,4 @@
--- Laws of texts laid in an area: two texts laid one behind the other are one text (`wrote_then`), a byte that is stored is a text of one.
+-- Laws of texts laid in an area: two texts laid one behind the other are one text (`wrote_then`), and nothing laid is nothing done.
 use Prim.Native.Nat.{ℕ, suc, ◌+◌, ◌-◌, ◌≤◌, ◌<◌}
 use mathlib.Core.Path.{◌≡◌, refl, sym, ◌∙◌, ap, subst}
 use mathlib.Core.List.{List, [], ◌∷◌, ◌++◌, append_assoc, append-nil}
@@ -56,22 +56,6 @@ wrote_none out at =
           sym (take-append-drop at out) ∙ ap (λ (n : ℕ). take at out ++ drop n out) (sym (add-zero at))
           ∙ ap (λ (l : List ℕ). l ++ drop (at + 0) out) (sym (append-nil (take at out)));
     }
-
--- a byte stored
-pub wrote_byte : (out : List ℕ) (at c : ℕ) → at < length out → Wrote out at (c ∷ []) (at + 1) (set out at c)
-unfolding laid
-wrote_byte out at c h =
-    record {
-      place = refl;
-      area =
-          set_split out at c h ∙ sym (append_snoc (take at out) c (drop (suc at) out))
-          ∙ ap (λ (n : ℕ). (take at out ++ c ∷ []) ++ drop n out) (sym (add-one at));
-    }
-
--- one more byte of a text
-pub wrote_more : {out o₁ o₂ : List ℕ} {at r₁ r₂ : ℕ} (t : List ℕ) (i : ℕ) → Wrote out at (take i t) r₁ o₁ → Wrote o₁ r₁ (get_or t i 0 ∷ []) r₂ o₂
-    → i < length t → at + length t ≤ length out → Wrote out at (take (i + 1) t) r₂ o₂
-wrote_more t i p q h k = rw (add-one i, take-suc t i 0) (wrote_then p q (omega (arith, length-take-le i t (omega arith))))
 
 -- the same text, told otherwise
 pub wrote_text : {out o₁ : List ℕ} {at r₁ : ℕ} {a b : List ℕ} → a ≡ b → Wrote out at a r₁ o₁ → Wrote out at b r₁ o₁

@@ -1,4 +1,4 @@
-// The desk program.
+// The desk program. `months` differs in its type and its name alone, and `main` takes neither as a parameter.
 #![tactic(auto)]
 
 use desk::Desk;

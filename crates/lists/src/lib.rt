@@ -15,7 +15,7 @@ pub fn most_lines(m: usize) -> usize
     top / 2 + 1
 }
 
-// Whether list a is before list b.
+// Whether list a is before list b: 01's order, in which the shorter list comes first, so no derive has it.
 pub fn is_before(a: &[u8], b: &[u8]) -> bool
     ensures { Decides result (Before a.now b.now) }
 {

@@ -7,4 +7,4 @@ mod said;
 
 pub use line::Line;
 pub use program::Program;
-pub use said::{put_both, put_pair, put_refusal, refusal};
+pub use said::{put_both, put_refusal, refusal};

@@ -29,16 +29,6 @@ pub fn put_refusal(page: &mut Page, number: u64, answer: u64)
     put_both(page, b"refused ", number, b" ", answer);
 }
 
-// A pair at a place of a lent area; answers the next place.
-pub fn put_pair(out: &mut [u8], at: usize, word: &[u8], x: u64, between: &[u8], y: u64) -> usize
-    requires { at + length word.now + length between.now + 41 ≤ length out.old }
-    ensures { Wrote out.old at (word.now ++ decimal x ++ between.now ++ decimal y ++ ascii "\n") result out.new }
-{
-    let mut page = Page::behind(out, at);
-    put_both(&mut page, word, x, between, y);
-    page.len
-}
-
 // A refusal in front of a lent area; answers its length.
 pub fn refusal(out: &mut [u8], number: u64, answer: u64) -> usize
     requires { refusal_room ≤ length out.old }

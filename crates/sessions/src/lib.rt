@@ -40,7 +40,7 @@ impl<P: Program> Session<P> {
         }
     }
 
-    // Nothing more will be printed.
+    // Nothing more will be printed, which the program alone knows.
     pub fn is_over(&self) -> bool
         ensures { result ≡ P.kind.over self.now.program }
     {

@@ -10,7 +10,7 @@ ghost use Rattle.tables.specs.Thirds.{AreSums, SumsOf};
 
 use boxes;
 
-// What a move does to a number that is kept.
+// What a move does to a number that is kept. `fits_shifted`, `moved` and `Bears` speak of its three cases, so none of them is an Option.
 #[derive(Clone, Copy, Debug, PartialEq, Eq)]
 pub enum Shift {
     Stays,
@@ -59,7 +59,8 @@ pub fn move_at(m: usize, c: usize, by: Shift, t: &mut [u32])
     }
 }
 
-// Whether each entry of a box that contains the combination c, shifted, is 0 to `most` and `each` more for each combination of the box.
+// Whether each entry of a box that contains the combination c, shifted, is 0 to `most` and `each` more for each combination of the box. It stands beside
+// `Shift::fits`, which is of one number.
 pub fn fits_at(m: usize, c: usize, by: Shift, t: &[u32], most: u64, each: u64) -> bool
     requires over { Over m c t.now }
     requires most_bound { (most < 2 ^ 33) × (each ≤ 1) }

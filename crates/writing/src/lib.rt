@@ -38,7 +38,8 @@ fn put_entry(page: &mut Page<'_>, c: usize, x: u32, section: Section)
     put_bytes(page, section.bytes_behind(), u64::from(x));
 }
 
-// The combinations of a section, `has` telling what each has in it.
+// The combinations of a section, `has` telling what each has in it. A `for` and a call, as `put_rows` of year: one function for both would take the call
+// as a closure.
 fn put_list(page: &mut Page<'_>, has: &[u32], section: Section)
     requires has_bound { length has.now ≤ 32 }
     requires room { HasRoom page.old (length (list_in section has.now)) }

@@ -35,6 +35,7 @@ fn in_order(date: Date, last: Date) -> bool
     !date.is_earlier(last)
 }
 
+// `GoesOn` is asked by each method that needs it, and is no field of `Booked`: `new` makes one of any year and sheet.
 impl Booked {
     // A year of which nothing is booked.
     pub fn new(year: usize, sheet: Sheet) -> Booked

@@ -24,7 +24,7 @@ pub enum Year {
 }
 
 impl Year {
-    // Line 1 has ended.
+    // Line 1 has ended. The room is that of `Program::step`, as in desk.
     fn year_line(&mut self, line: &Line, out: &mut [u8]) -> usize
         requires { page_room ≤ length out.old }
         ensures { YearTaken line.now.number (row_of line.now) out.old self.new result out.new }
@@ -36,7 +36,7 @@ impl Year {
             }
             None => {
                 *self = Year::Over;
-                machine::refusal(out, line.number, 10)
+                machine::refusal(out, line.number, Refusal::Unreadable(0).number())
             }
         }
     }
@@ -66,6 +66,7 @@ impl Program for Year {
         Year::Naming
     }
 
+    // A match, as in desk.
     fn is_over(&self) -> bool {
         match self {
             Year::Over => true,

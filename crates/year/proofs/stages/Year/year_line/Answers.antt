@@ -1,5 +1,8 @@
 -- As line 1 names the year, or does not.
+use mathlib.Core.Path.{ap}
 use native.Mathlib.Omega.{arith}
+use Rattle.ground.proofs.Areas.{wrote_text}
+use Rattle.machine.specs.Machine.{refusal}
 use Rattle.desk.proofs.Steps.{refusal_short}
 use Rattle.year.proofs.Steps.{line_named, line_nameless}
 use Rattle.year.proofs.stages.Year.year_line.Goals as goal
@@ -9,5 +12,6 @@ returns-in-Some c = line_named c.year_of.ensures c.in-Some.is
 
 pub returns-in-None : goal.returns-in-None
 returns-in-None c =
-    line_nameless c.year_of.ensures c.in-None.is c.refusal.ensures
-    (refusal_short c.args.line.now.number 10 (λ z. omega arith) c.refusal.ensures (omega arith) (omega arith))
+    let k = c.args.line.now.number in
+    let laid = wrote_text (ap (refusal k) c.number.ensures) c.refusal.ensures in
+    line_nameless c.year_of.ensures c.in-None.is laid (refusal_short k 10 (λ z. omega arith) laid (omega arith) (omega arith))
