@@ -3,7 +3,7 @@ use borrow.Author.Tests.{eqb-true, eqb-false}
 use Rattle.std.specs.Prelude.{Result, Option, Bool, List, [], ◌++◌, ◌≡◌, ◌<◌, ◌≤◌, ◌+◌, ℕ, length, take, drop, eqb, OnOk, true, false}
 use Rattle.std.proofs.Common.{Ok, Err, sym, ap, ◌∙◌, subst, append_assoc, append-nil, length-append, inl, inr, arith}
 use Rattle.std.proofs.lemmas.List.{take-append-drop, nil_from_length}
-use Rattle.std.specs.Io.KnownBytes.{Consumes, Appends, IsAtEnd}
+use Rattle.std.specs.Io.KnownBytes.{Consumes, Appends}
 use Rattle.std.proofs.KnownBytes.{Appends-nil, Appends-trans, Consumes-nil, Consumes-trans}
 use Rattle.ground.proofs.Areas.{wrote_front}
 use Rattle.machine.specs.Machine.{Output}

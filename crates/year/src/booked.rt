@@ -68,6 +68,7 @@ impl Booked {
     }
 
     // A call without a date: part of the opening stock, and unreadable behind a dated line.
+    #[tactic(auto, using(crate::proofs::Steps::undated_stock))]
     pub fn undated(&mut self, call: Call) -> Result<(), Refusal>
         requires { GoesOn self.old }
         ensures { BooksUndated self.old call result self.new }

@@ -1,4 +1,4 @@
-use Rattle.std.proofs.Common.{refl, sym, ap, ◌∙◌, arith, length, List, [], ◌++◌, ◌≡◌, append_assoc, append-nil, length-append}
+use Rattle.std.proofs.Common.{refl, sym, ap, ◌∙◌, arith, length, [], length-append}
 use lib.Seq.{length-take-le}
 use Rattle.ground.proofs.Areas.{wrote_front}
 use Rattle.sessions.proofs.Sessions.{fed_some, fed_within, took_number}

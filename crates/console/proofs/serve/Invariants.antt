@@ -10,7 +10,7 @@ invariant-loop-rest g l =
     let k = g.P.Program.kind in
     let contents = g.W.Write.contents in
     (room ≡ length l.out) × (taken : List ℕ) × (l.piece ≡ taken ++ l.rest)
-        × ((p : Position k.machine) → At k l.initial.session p → Passed k p taken l.session (contents l.initial.output) (contents l.output))
+    × ((p : Position k.machine) → At k l.initial.session p → Passed k p taken l.session (contents l.initial.output) (contents l.output))
 
 abbrev pub decreases-loop-rest : goal.decreases-loop-rest
 decreases-loop-rest g l = length l.rest
