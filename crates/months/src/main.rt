@@ -1,8 +1,8 @@
 // The year program.
 #![tactic(auto)]
 
-use year::Year;
 use std::process::ExitCode;
+use year::Year;
 
 fn main(rt: HostRuntime) -> ExitCode {
     match console::run::<_, _, Year>(&mut rt.stdin(), &mut rt.stdout()) {
