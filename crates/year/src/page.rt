@@ -6,7 +6,8 @@ ghost use Rattle.year.specs.Parts.{closed_with, month_in, row_room};
 
 use print::Page;
 
-// The months from the first of these on have this total, up to the second, which does not. They count from 1, and `closed_with` sets one after the other.
+// The months from the first of these on have this total, up to the second, which does not. `fill` of the part between
+// was tried, and its proof didn't close.
 pub fn close_months(totals: [u64; 12], from: usize, to: usize, total: u64) -> [u64; 12]
     requires { (1 ≤ from) × (from ≤ to) × (to ≤ 13) }
     ensures { result ≡ closed_with totals from to total }
