@@ -21,7 +21,7 @@ const FUNCTION: [u8; 15] = [5, 6, 7, 10, 11, 12, 13, 18, 19, 22, 23, 26, 27, 28,
 const ITS_LINES: [u8; 6] = [64, 176, 194, 198, 86, 120];
 
 // Why the run ends early: a call that must be done is refused, or nothing more can be printed.
-#[derive(Debug, Drop)]
+#[derive(Drop)]
 enum Ended {
     Call(Refusal),
     Output(io::Error),
@@ -197,14 +197,23 @@ fn limit(rt: &impl Print) -> Result<(), Ended> {
     Ok(())
 }
 
-fn main(rt: HostRuntime) -> Result<(), Ended> {
-    known_sheet(&rt, 3, &ONE_TO_SIX)?;
-    known_sheet(&rt, 5, &ALL)?;
-    known_sheet(&rt, 5, &FUNCTION)?;
-    document(&rt)?;
-    lists_that_others_drew(&rt)?;
-    stored(&rt)?;
-    times_of_both_forms(&rt)?;
-    amounts(&rt)?;
-    limit(&rt)
+// What is to be printed, or why it ends early.
+fn printed(rt: &impl Print) -> Result<(), Ended> {
+    known_sheet(rt, 3, &ONE_TO_SIX)?;
+    known_sheet(rt, 5, &ALL)?;
+    known_sheet(rt, 5, &FUNCTION)?;
+    document(rt)?;
+    lists_that_others_drew(rt)?;
+    stored(rt)?;
+    times_of_both_forms(rt)?;
+    amounts(rt)?;
+    limit(rt)
+}
+
+fn main(rt: HostRuntime) -> io::Result<()> {
+    match printed(&rt) {
+        Ok(()) => Ok(()),
+        Err(Ended::Output(e)) => Err(e),
+        Err(Ended::Call(_)) => Err(io::Error::from(io::ErrorKind::Other)),
+    }
 }
