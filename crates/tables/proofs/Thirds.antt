@@ -77,6 +77,14 @@ sums_none t b l =
     let e : b ≡ 0 = omega arith in
     rw e (sym (sum_in-single 0 0 (λ c. t (single 0 c)) (omega arith)))
 
+-- one mark: the box of both combinations has the sum of the two
+pub added_one : (m : ℕ) (t : ℕ → ℕ) → m ≡ 1 → t 2 ≡ t 0 + t 1 → Sums m t
+added_one m t is e =
+    rw is (added_sums 0 t (sums_none t) (sums_none (from (3 ^ 0) t)) (λ b l. let z : b ≡ 0 = omega arith in rw z e))
+
+pub one_added : (m : ℕ) (t : ℕ → ℕ) → m ≡ 1 → Sums m t → t 2 ≡ t 0 + t 1
+one_added m t is s = sums_added 0 t (rw is at s) 0 (omega arith)
+
 -- tables with the same entries of boxes
 sums_ext : (m : ℕ) (f g : ℕ → ℕ) → ((b : ℕ) → b < 3 ^ m → f b ≡ g b) → Sums m f → Sums m g
 sums_ext m f g h s b l = sym (h b l) ∙ s b l ∙ sum_in_ext m b _ _ (λ c lc. h (single m c) (through-lt m c 0))

@@ -82,9 +82,12 @@ fn are_sums(off: &[u32], on: &[u32], free: &[u32]) -> bool
     requires { (length on.now ≡ length off.now) × (length off.now ≤ length free.now) }
     ensures { Decides result (AreSums off.now on.now free.now) }
 {
-    off.iter().zip(on).zip(free).all(|((off, on), free)| {
-        u64::from(*free) == u64::from(*off) + u64::from(*on)
-    })
+    let mut right = true;
+    // it tests all, right or wrong, so that several can be tested at once
+    for (b, part) in off.iter().enumerate() {
+        right &= u64::from(free[b]) == u64::from(*part) + u64::from(on[b]);
+    }
+    right
 }
 
 // The number of combinations with the highest mark off.
@@ -113,13 +116,13 @@ pub fn sums(m: usize, t: &[u32]) -> bool
     if m == 0 {
         return true;
     }
+    // one mark is tested at once, as half of all calls would be for none
+    if m == 1 {
+        return u64::from(t[2]) == u64::from(t[0]) + u64::from(t[1]);
+    }
     let p = third(m);
     let (off, rest) = t.split_at(p);
     let (on, free) = rest.split_at(p);
-    // one mark is tested at once, as half of all calls would be for none
-    if m == 1 {
-        return are_sums(off, on, free);
-    }
     if !sums(m - 1, off) {
         return false;
     }

@@ -1,8 +1,9 @@
-use Rattle.std.proofs.Common.{◌≡◌, refl, subst, ℕ, suc, ◌-◌, ◌^◌, arith}
+use Rattle.std.proofs.Common.{◌≡◌, refl, subst, ℕ, suc, ◌+◌, ◌-◌, ◌^◌, arith}
+use borrow.Author.Tests.{eqb-true, eq-eqb}
 use Rattle.ground.proofs.Cases.{decided_yes, decided_no, denied}
 use Rattle.ground.specs.Decides.{Decides}
 use Rattle.tables.specs.Tables.{entry, Sums}
-use Rattle.tables.proofs.Thirds.{Parted, parted, sums_none, parts_sums, sums_low, sums_high, sums_both}
+use Rattle.tables.proofs.Thirds.{Parted, parted, sums_none, added_one, one_added, parts_sums, sums_low, sums_high, sums_both}
 use Rattle.tables.proofs.+sums.Goals as goal
 use Rattle.tables.proofs.+sums.Goals.{After-split_at-2}
 
@@ -18,13 +19,10 @@ returns-then-m-eq0 t c = decided_yes refl (rw c.if-m-eq0.true (sums_none (entry 
 
 pub returns-then-m-eq1 : goal.returns-then-m-eq1
 returns-then-m-eq1 t c =
-    let at = (goal.at.returns-then-m-eq1 t c).After-split_at-2 in
-    let w = parts t at in
-    let none : c.args.m - 1 ≡ 0 = omega arith in
-    subst (λ (n : ℕ). Decides c.are_sums.result (Sums n (entry c.args.t.now))) (more t at)
+    let both = c.from-then-m-eq1.result + c.from-then-m-eq1-2.result in
     record {
-      yes = λ e. parts_sums (c.args.m - 1) w (omega arith) (rw none (sums_none (entry c.split_at.result.0.now))) (rw none (sums_none (entry c.split_at-2.result.0.now))) (c.are_sums.ensures.yes e);
-      sure = λ s. c.are_sums.ensures.sure (sums_both (c.args.m - 1) w (omega arith) s);
+      yes = λ e. added_one c.args.m (entry c.args.t.now) c.if-m-eq1.true (omega (arith, eqb-true c.from.result both e));
+      sure = λ s. eq-eqb c.from.result both (omega (arith, one_added c.args.m (entry c.args.t.now) c.if-m-eq1.true s));
     }
 
 pub returns-then-not-sums : goal.returns-then-not-sums
@@ -41,8 +39,8 @@ pub returns : goal.returns
 returns t c =
     let at = (goal.at.returns t c).After-split_at-2 in
     let w = parts t at in
-    subst (λ (n : ℕ). Decides c.are_sums-2.result (Sums n (entry c.args.t.now))) (more t at)
+    subst (λ (n : ℕ). Decides c.are_sums.result (Sums n (entry c.args.t.now))) (more t at)
     record {
-      yes = λ e. parts_sums (c.args.m - 1) w (omega arith) (c.sums.ensures.yes c.if-not-sums.false) (c.sums-2.ensures.yes c.if-not-sums-2.false) (c.are_sums-2.ensures.yes e);
-      sure = λ s. c.are_sums-2.ensures.sure (sums_both (c.args.m - 1) w (omega arith) s);
+      yes = λ e. parts_sums (c.args.m - 1) w (omega arith) (c.sums.ensures.yes c.if-not-sums.false) (c.sums-2.ensures.yes c.if-not-sums-2.false) (c.are_sums.ensures.yes e);
+      sure = λ s. c.are_sums.ensures.sure (sums_both (c.args.m - 1) w (omega arith) s);
     }
