@@ -7,7 +7,7 @@ use native.Mathlib.Omega.{arith}
 use lib.Dec.{eqb, leb, ltb}
 use lib.ListN.{length, get_or}
 use borrow.Author.Tests.{eq-eqb}
-use Rattle.std.specs.Prelude.{Result, Ok, Err, cond}
+use Rattle.std.specs.Prelude.{Result, Ok, Err, IsErrAnd, cond}
 use Rattle.std.specs.Int.{from_bool}
 use Rattle.ground.specs.Decides.{Decides}
 use Rattle.lists.specs.Lists.{Before}
@@ -37,7 +37,7 @@ use Rattle.stored.specs.Told.{Read, read_as}
 use Rattle.stored.proofs.Trips.{read_sound}
 use Rattle.pla.specs.Answers.{WritesPla}
 use Rattle.lent.specs.declared.Reply.{Reply}
-use Rattle.lent.specs.Entries.{reply_of, valued, no_reply, HoldsBy, HoldsNoneBy, Holds, Put, ChangesBy, Lends, Compared, same}
+use Rattle.lent.specs.Entries.{reply_of, valued, no_reply, HoldsBy, HoldsNoneBy, Holds, HoldsNone, Put, ChangesBy, Lends, Compared, same}
 
 -- whichever way of reading, what was read or its refusal
 
@@ -46,6 +46,16 @@ holds s reads = record { read = read_as (Ok s); reads = reads; good = refl; shee
 
 pub holds_none : {A : Type 0} {R : Read → Type 0} (refusal : Read → A) (e : Refused) → R (read_as (Err e)) → HoldsNoneBy R refusal (refusal (read_as (Err e)))
 holds_none refusal e reads = record { read = read_as (Err e); reads = reads; bad = never_done e.refusal; reply = refl }
+
+-- what was read, of which the sheet or the refusal alone is handed on
+
+pub the_sheet : {t : List ℕ} (r : Result Sheet Refused) (s : Sheet) → r ≡ Ok s → Reads most_marks entries t (read_as r) → Reads most_marks entries t (read_as (Ok s))
+the_sheet {t} r s e reads = subst (λ (x : Result Sheet Refused). Reads most_marks entries t (read_as x)) e reads
+
+pub no_sheet : {A : Type 0} {t : List ℕ} (refusal : Read → A) (told : Refusal → A) → ((x : Refused) → told x.refusal ≡ refusal (read_as (Err x)))
+    → (r : Result Sheet Refused) (e : Refusal) → IsErrAnd r (λ x. e ≡ x.refusal) → Reads most_marks entries t (read_as r) → HoldsNone refusal t (told e)
+no_sheet refusal told same (Ok s) e p reads = absurd p
+no_sheet {t = t} refusal told same (Err x) e p reads = subst (HoldsNone refusal t) (sym (ap told p ∙ same x)) (holds_none refusal x reads)
 
 -- a result whose number is not 10 has no place
 

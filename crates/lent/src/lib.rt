@@ -1,7 +1,7 @@
 // A sheet that is lent in its stored form: read, then asked or changed, and what is left written. What the entries for C are made of.
 #![tactic(auto)]
 
-ghost use Rattle.std.specs.Prelude.{◌≡◌};
+ghost use Rattle.std.specs.Prelude.{◌≡◌, Ok, IsErrAnd, MatchResult};
 ghost use Rattle.tables.specs.Tables.{entry};
 ghost use Rattle.sheet.specs.Limits.{most_marks};
 ghost use Rattle.sheet.specs.Record.{outside_counts, either_counts, held_seconds};
@@ -51,8 +51,11 @@ pub fn written(read: Result<Sheet, Refused>, out: &mut [u8]) -> Result<u64, Refu
     requires { Ready most_marks (read_as read).sheet }
     ensures { ChangesBy (λ a. a ≡ read_as read) same out.old (reply_of result) out.new }
 {
-    let s = read?;
-    writing::write_sound(&s, out)
+    // as it lies there: `?` would copy the sheet
+    match &read {
+        Ok(s) => writing::write_sound(s, out),
+        Err(refused) => Err(refused.refusal),
+    }
 }
 
 // Makes a call on the lent sheet, and writes what is left.
@@ -64,11 +67,22 @@ pub fn change(sheet: &[u8], call: Call, out: &mut [u8]) -> Result<u64, Refusal>
     writing::write_sound(&s, out)
 }
 
+// The sheet that was read, where it lies: a `?` on what was read would copy it.
+fn sheet_in(read: &Result<Sheet, Refused>) -> Result<&Sheet, Refusal>
+    ensures { MatchResult result (λ s. read.now ≡ Ok s.now) (λ e. IsErrAnd read.now (λ r. e ≡ r.refusal)) }
+{
+    match read {
+        Ok(s) => Ok(s),
+        Err(refused) => Err(refused.refusal),
+    }
+}
+
 // How many combinations are in the class of the lent sheet.
 pub fn class_size(sheet: &[u8]) -> Result<u64, Refusal>
     ensures { Tells (ClassSize most_marks) sheet.now (reply_of result) }
 {
-    let s = reading::read(sheet)?;
+    let read = reading::read(sheet);
+    let s = sheet_in(&read)?;
     Ok(s.size_sound())
 }
 
@@ -76,8 +90,9 @@ pub fn class_size(sheet: &[u8]) -> Result<u64, Refusal>
 pub fn total(sheet: &[u8]) -> Result<u64, Refusal>
     ensures { Tells (Totalled most_marks) sheet.now (reply_of result) }
 {
-    let s = reading::read(sheet)?;
-    Ok(totals::total_sound(&s))
+    let read = reading::read(sheet);
+    let s = sheet_in(&read)?;
+    Ok(totals::total_sound(s))
 }
 
 // The number that a table keeps of a line; one that is no box has 0.
@@ -91,7 +106,8 @@ fn kept(t: &[u32], line: u64) -> u64
 pub fn outside(sheet: &[u8], line: u64) -> Result<u64, Refusal>
     ensures { Tells (KeptAt outside_counts line) sheet.now (reply_of result) }
 {
-    let s = reading::read(sheet)?;
+    let read = reading::read(sheet);
+    let s = sheet_in(&read)?;
     Ok(kept(&s.outside, line))
 }
 
@@ -99,7 +115,8 @@ pub fn outside(sheet: &[u8], line: u64) -> Result<u64, Refusal>
 pub fn either(sheet: &[u8], line: u64) -> Result<u64, Refusal>
     ensures { Tells (KeptAt either_counts line) sheet.now (reply_of result) }
 {
-    let s = reading::read(sheet)?;
+    let read = reading::read(sheet);
+    let s = sheet_in(&read)?;
     Ok(kept(&s.either, line))
 }
 
@@ -107,7 +124,8 @@ pub fn either(sheet: &[u8], line: u64) -> Result<u64, Refusal>
 pub fn held(sheet: &[u8], line: u64) -> Result<u64, Refusal>
     ensures { Tells (KeptAt held_seconds line) sheet.now (reply_of result) }
 {
-    let s = reading::read(sheet)?;
+    let read = reading::read(sheet);
+    let s = sheet_in(&read)?;
     Ok(kept(&s.held, line))
 }
 
@@ -115,24 +133,27 @@ pub fn held(sheet: &[u8], line: u64) -> Result<u64, Refusal>
 pub fn list(sheet: &[u8], area: &mut [u8]) -> Result<u64, Refusal>
     ensures { Lends (Listed most_marks) sheet.now area.old (reply_of result) area.new }
 {
-    let s = reading::read(sheet)?;
-    listing::list_sound(&s, area)
+    let read = reading::read(sheet);
+    let s = sheet_in(&read)?;
+    listing::list_sound(s, area)
 }
 
 // The PLA text of that, put there.
 pub fn write_pla(sheet: &[u8], out: &mut [u8]) -> Result<u64, Refusal>
     ensures { Lends (WritesPla most_marks) sheet.now out.old (reply_of result) out.new }
 {
-    let s = reading::read(sheet)?;
-    pla_writing::write_sound(&s, out)
+    let read = reading::read(sheet);
+    let s = sheet_in(&read)?;
+    pla_writing::write_sound(s, out)
 }
 
 // The first fault of a lent list for the class of the lent sheet; none where it fits.
 fn judged(sheet: &[u8], list: &[u8]) -> Result<Option<(Fault, usize)>, Refusal>
     ensures { Judges sheet.now list.now (verdict_on result) }
 {
-    let s = reading::read(sheet)?;
-    Ok(checking::check_sound(&s, list))
+    let read = reading::read(sheet);
+    let s = sheet_in(&read)?;
+    Ok(checking::check_sound(s, list))
 }
 
 // Whether a lent list fits the class of the lent sheet, and else its first fault.

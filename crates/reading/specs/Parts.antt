@@ -1,20 +1,27 @@
 -- What the parts of the reader tell each other. f and g are the cursors before them and behind them.
-use Rattle.std.specs.Prelude.{ℕ, ◌^◌, ◌≤◌, ◌<◌, ◌≡◌, true, List, ltb, length, Result, MatchResult}
+use Rattle.std.specs.Prelude.{ℕ, ◌^◌, ◌≤◌, ◌<◌, ◌≡◌, true, List, ltb, length, Result, Ok, MatchResult}
 use Rattle.tables.specs.Tables.{entry}
 use Rattle.profiles.specs.Profiles.{breaks}
 use Rattle.profiles.specs.declared.Profile.{Profile}
 use Rattle.profiles.specs.declared.Profile.TheVariants.{None}
 use Rattle.classes.specs.Standings.{is_either}
+use Rattle.refusals.specs.Numbers.{number_of, place_of}
 use Rattle.refusals.specs.declared.Refusal.{Refusal}
-use Rattle.sheet.specs.Record.{Record, with_profile}
+use Rattle.sheet.specs.Limits.{most_marks, entries}
+use Rattle.sheet.specs.Parts.{Addable}
+use Rattle.sheet.specs.Record.{Record, with_profile, sheet_from}
+use Rattle.sheet.specs.declared.Sheet.{Sheet}
+use Rattle.stored.specs.Answers.{ReadsBy}
+use Rattle.stored.specs.Told.{read_as}
 use Rattle.stored.specs.Sections.{Rest}
-use Rattle.stored.specs.Fields.{Next, due, count, group, rest_due, perhaps, complete, end, groups_due}
+use Rattle.stored.specs.Fields.{Next, due, count, group, rest_due, perhaps, complete, end, groups_due, refused, ReadingBy}
 use Rattle.stored.specs.declared.Section.TheVariants.{Either}
 use Rattle.stored.specs.declared.Layout.{Layout}
 use Rattle.stored.specs.declared.Layout.TheVariants.{First, Today}
 use Rattle.sections.specs.Parts.{Leads, Stops, Got, Missed}
 use Rattle.sections.specs.declared.form.Form.{Form}
 use Rattle.sections.specs.declared.fields.Fields.{Fields}
+use Rattle.reading.specs.declared.Parts.{Parts}
 
 -- nothing is read, and no combination is either
 pub record NoneRead (m : ℕ) (f g : Fields) (own : List ℕ) : Type 0 where
@@ -86,3 +93,15 @@ EndMissed Today m eithers f e = Dropped (ProfileBefore m eithers) perhaps f e
 
 abbrev pub EndRead : Layout → List ℕ → Form → Form → Result Profile Refusal → Type 0
 EndRead layout eithers f g result = MatchResult result (λ p. EndFound layout f.marks eithers f.fields g.fields p) (λ e. EndMissed layout f.marks eithers f.fields e)
+
+-- parts of which a sheet can be worked out, and the bytes read as that
+pub record PartsFound (layout : Layout) (t : List ℕ) (p : Parts) : Type 0 where
+  pub marks : p.marks ≤ most_marks
+  pub outs : Addable p.marks p.outs
+  pub eithers : Addable p.marks p.eithers
+  pub times : Addable p.marks p.times
+  pub reads : {s : Sheet} → s ≡ sheet_from entries p.marks p.profile (entry p.outs) (entry p.eithers) (entry p.times) → ReadsBy layout most_marks entries t (read_as (Ok s))
+
+-- the parts of the sheet that the bytes read as; or the refusal that they read as
+abbrev pub PartsRead : Layout → List ℕ → Result Parts Refusal → Type 0
+PartsRead layout t result = MatchResult result (λ p. PartsFound layout t p) (λ e. ReadingBy layout most_marks t (refused (number_of e) (place_of e)))

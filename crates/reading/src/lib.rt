@@ -5,7 +5,7 @@ ghost use Rattle.sheet.specs.Limits.{most_marks, entries};
 ghost use Rattle.stored.specs.Answers.{ReadsBy, Reads};
 ghost use Rattle.stored.specs.Told.{read_as};
 ghost use Rattle.stored.specs.declared.Layout.TheVariants.{First};
-ghost use Rattle.reading.specs.Parts.{EitherRead, EndRead};
+ghost use Rattle.reading.specs.Parts.{EitherRead, EndRead, PartsRead};
 
 mod groups;
 
@@ -41,21 +41,44 @@ fn profile_part(
     }
 }
 
-// The sheet of a form of a layout, worked out from what was read.
-fn read_by(bytes: &[u8], layout: Layout) -> Result<Sheet, Refused>
-    ensures { ReadsBy layout most_marks entries bytes.now (read_as result) }
+// What a form holds, of which its sheet is worked out: what each combination has in each table of its own.
+#[derive(Clone, Copy)]
+struct Parts {
+    marks: usize,
+    profile: Profile,
+    outs: [u32; 32],
+    eithers: [u32; 32],
+    times: [u32; 32],
+}
+
+// The parts of a form of a layout. The sheet is worked out behind them: it is large, and each `?` on it would clear room for another.
+fn parts_of(bytes: &[u8], layout: Layout) -> Result<Parts, Refusal>
+    ensures { PartsRead layout bytes.now result }
 {
     let mut form = Form::open(bytes)?;
-    let m = form.marks;
+    let marks = form.marks;
     let ins = sections::read(&mut form, Section::Class, &[0u32; 32])?;
     let eithers = either_part(&mut form, &ins, layout)?;
     let times = sections::read(&mut form, Section::Held, &eithers)?;
     let profile = profile_part(&mut form, &eithers, layout)?;
     if !form.fields.rest.is_empty() {
-        return Err(Refusal::Unreadable(form.fields.place()).into());
+        return Err(Refusal::Unreadable(form.fields.place()));
     }
-    let outs = stored::neither(&ins, &eithers);
-    Ok(Sheet::afresh(m, profile, &outs, &eithers, &times))
+    Ok(Parts {
+        marks,
+        profile,
+        outs: stored::neither(&ins, &eithers),
+        eithers,
+        times,
+    })
+}
+
+// The sheet of a form of a layout, worked out from its parts.
+fn read_by(bytes: &[u8], layout: Layout) -> Result<Sheet, Refused>
+    ensures { ReadsBy layout most_marks entries bytes.now (read_as result) }
+{
+    let p = parts_of(bytes, layout)?;
+    Ok(Sheet::afresh(p.marks, p.profile, &p.outs, &p.eithers, &p.times))
 }
 
 // Today's form.

@@ -20,11 +20,11 @@ use Rattle.stored.specs.Sections.{Rest, bytes_behind, takes, held_in, added}
 use Rattle.stored.specs.Fields.{Next, due, count, combination, behind, rest_due, entries_due, judge}
 use Rattle.stored.specs.declared.Section.{Section}
 use Rattle.stored.proofs.Sections.{held_more}
-use Rattle.sections.specs.Places.{offset_of, Fits, Faulty}
+use Rattle.sections.specs.Places.{offset_of, Behind, Fits, Faulty}
 use Rattle.sections.specs.Parts.{Leads, Stops, least, has_in, with_own, ReadBefore, Got, Missed, PartRead}
 use Rattle.sections.specs.declared.form.Form.{Form}
 use Rattle.sections.specs.declared.fields.Fields.{Fields}
-use Rattle.sections.proofs.Offsets.{start as at_start, then, then_stops, field_taken, field_missed, field_barred}
+use Rattle.sections.proofs.Offsets.{behind_none, behind_more, fits_behind, start as at_start, then, then_stops, field_taken, field_missed, field_barred}
 use Rattle.sections.proofs.Own.{own_marks, own_start, set_here, set_other, own_added, own_none, own_takes, may_stand-true, may_not, own_most}
 
 -- a combination is due where some are left, and what follows the section where none is
@@ -111,6 +111,7 @@ module _ (s : Section) (m : ℕ) (barred : List ℕ) (own : List ℕ) (clear : (
   pub reached_none : (n : ℕ) (f : Fields) → 2 ^ m ≤ length own → EntriesReached s m barred n f f own 0 n 0
   reached_none n f long = record {
     got = record {
+      behind = behind_none f;
       long = long;
       most = λ c l. omega (arith, clear c l);
       leads = λ rest r b. subst (λ (q : Record). Leads (entries_due s rest r n 0) f (entries_due s rest q n 0) f) (sym (as_before r b)) (at_start (entries_due s rest r n 0) f);
@@ -123,6 +124,7 @@ module _ (s : Section) (m : ℕ) (barred : List ℕ) (own : List ℕ) (clear : (
 module _ {s : Section} {m : ℕ} {barred : List ℕ} {n : ℕ} {f g : Fields} {own : List ℕ} {low left sum : ℕ} (v : EntriesReached s m barred n f g own low left sum) where
   pub reached_end : left ≡ 0 → Got s m barred (λ (rest : Rest) (r : Record). entries_due s rest r n 0) rest_due f g own
   reached_end e = record {
+    behind = v.got.behind;
     long = v.got.long;
     most = v.got.most;
     leads = λ rest r b.
@@ -177,6 +179,7 @@ module _ {s : Section} {m : ℕ} {barred : List ℕ} {n : ℕ} {f g : Fields} {o
             λ r b. own_added own c x c_own s r (omega (arith, c_m, ap (λ (j : ℕ). 2 ^ j) b.marks)) in
             record {
               got = record {
+                behind = behind_more (behind_more v.got.behind (fits_behind read)) (fits_behind w);
                 long = omega (arith, length-set own c y, v.got.long);
                 most = λ z l. same_or z c
                     (λ q. omega (arith, ap (entry (set own c y)) q, set_here own c y c_own, most))
@@ -195,10 +198,10 @@ module _ {s : Section} {m : ℕ} {barred : List ℕ} {n : ℕ} {f g : Fields} {o
             }
 
 -- a part behind what leads to it
-module _ (s : Section) (barred : List ℕ) {from from₁ : Rest → Record → Next} (f f₁ : Form) (same : f₁.marks ≡ f.marks)
+module _ (s : Section) (barred : List ℕ) {from from₁ : Rest → Record → Next} (f f₁ : Form) (same : f₁.marks ≡ f.marks) (on : Behind f.fields f₁.fields)
     (l : (rest : Rest) (r : Record) → ReadBefore s f.marks barred r → Leads (from rest r) f.fields (from₁ rest r) f₁.fields) where
   got_after : (g : Form) (own : List ℕ) → Got s f.marks barred from₁ rest_due f₁.fields g.fields own → Got s f.marks barred from rest_due f.fields g.fields own
-  got_after g own v = record { long = v.long; most = v.most; leads = λ rest r b. then (l rest r b) (v.leads rest r b) }
+  got_after g own v = record { behind = behind_more on v.behind; long = v.long; most = v.most; leads = λ rest r b. then (l rest r b) (v.leads rest r b) }
 
   missed_after : (e : Refusal) → Missed s f.marks barred from₁ f₁.fields e → Missed s f.marks barred from f.fields e
   missed_after e v = record { stops = λ rest r b. then_stops (l rest r b) (v.stops rest r b) }

@@ -1,7 +1,8 @@
 -- A field that comes next in a form: its number, and how the run goes on where it is taken, faulty, or not complete.
-use Rattle.std.proofs.Common.{◌≡◌, ◌∙◌, ℕ, ◌+◌, ◌-◌, ◌*◌, ◌^◌, ◌≤◌, ◌<◌, refl, sym, ap, subst, List, [], ◌∷◌, length, get_or, take, drop, arith}
-use Rattle.std.proofs.lemmas.List.{take_all}
+use Rattle.std.proofs.Common.{◌≡◌, ◌∙◌, ℕ, zero, suc, ◌+◌, ◌-◌, ◌*◌, ◌^◌, ◌≤◌, ◌<◌, refl, sym, ap, subst, List, [], ◌∷◌, length, get_or, take, drop, arith}
+use Rattle.std.proofs.lemmas.List.{take_all, drop-drop}
 use native.Mathlib.Nat.{pow-le-pow_right}
+use native.Mathlib.Numerals.{sub-one}
 use lib.ListN.{length-drop}
 use Rattle.refusals.specs.declared.Refusal.{Refusal}
 use Rattle.refusals.specs.declared.Refusal.TheVariants.{Unreadable}
@@ -10,7 +11,7 @@ use Rattle.sheet.specs.Record.{Record}
 use Rattle.stored.specs.Fields.{number_in, Due, width, Next, due, end, wrong, judge, good, refused, Run, done, over, early, faulty}
 use Rattle.stored.proofs.Runs.{goes}
 use Rattle.sections.specs.Parts.{Leads, Stops}
-use Rattle.sections.specs.Places.{offset_of, number_at, Fits, Faulty, early as field_early, wrong as field_wrong}
+use Rattle.sections.specs.Places.{offset_of, number_at, Behind, Fits, Faulty, early as field_early, wrong as field_wrong}
 use Rattle.sections.specs.declared.fields.Fields.{Fields}
 
 -- the number of some bytes
@@ -29,6 +30,37 @@ number_more [] low behind h e q = absurd (omega arith)
 number_more (b ∷ l) low behind h e q =
     let all : take (length (b ∷ l) - 1) l ≡ l = take_all (length (b ∷ l) - 1) l (omega arith) in
     omega (arith, ap number_in all)
+
+-- the number of the bytes from the i-th on, which one byte more makes
+number_from : (l : List ℕ) (i : ℕ) → i < length l → number_in (drop i l) ≡ get_or l i 0 + number_in (drop (suc i) l) * 256
+unfolding number_in
+number_from [] i h = absurd (omega arith)
+number_from (b ∷ l) zero h = refl
+number_from (b ∷ l) (suc i) h = number_from l i (omega arith)
+
+pub number_grows : (l : List ℕ) (i n b : ℕ) → 0 < i → i ≤ length l → n ≡ number_in (drop i l) → b ≡ get_or l (i - 1) 0 → n * 256 + b ≡ number_in (drop (i - 1) l)
+number_grows l zero n b h k e q = absurd (omega arith)
+number_grows l (suc i) n b h k e q =
+    let at : b ≡ get_or l i 0 = q ∙ ap (λ (j : ℕ). get_or l j 0) (sub-one (suc i)) in
+    omega (arith, number_from l i (omega arith), e, at, ap (λ (j : ℕ). number_in (drop j l)) (sub-one (suc i)))
+
+pub number_fits : (n i j b : ℕ) → n < 256 ^ i → b < 256 → j ≡ suc i → n * 256 + b < 256 ^ j
+number_fits n i j b h k e = rw e (omega (arith, h, k))
+
+-- a cursor behind another
+
+pub behind_none : (f : Fields) → Behind f f
+behind_none f = record { size = refl; passed = 0; rest = refl }
+
+pub behind_more : {f g h : Fields} → Behind f g → Behind g h → Behind f h
+behind_more {f} a b = record {
+  size = b.size ∙ a.size;
+  passed = a.passed + b.passed;
+  rest = b.rest ∙ ap (drop b.passed) a.rest ∙ drop-drop b.passed a.passed f.rest.now;
+}
+
+pub fits_behind : {f g : Fields} {k low high n : ℕ} → Fits f k low high g n → Behind f g
+fits_behind {k = k} v = record { size = v.size; passed = k; rest = v.rest }
 
 -- runs
 

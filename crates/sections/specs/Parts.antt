@@ -14,7 +14,7 @@ use Rattle.stored.specs.declared.Section.{Section}
 use Rattle.stored.specs.declared.Section.TheVariants.{Class, Either, Held}
 use Rattle.sections.specs.declared.form.Form.{Form}
 use Rattle.sections.specs.declared.fields.Fields.{Fields}
-use Rattle.sections.specs.Places.{offset_of}
+use Rattle.sections.specs.Places.{offset_of, Behind}
 
 -- the run over the bytes from one field leads to another
 pub record Leads (s : Next) (f : Fields) (u : Next) (g : Fields) : Type 0 where
@@ -56,6 +56,7 @@ pub record ReadBefore (s : Section) (m : ℕ) (barred : List ℕ) (r : Record) :
 
 -- What was read of a section up to the cursor g. The run leads there from `from`, whatever was read before it and whatever follows.
 pub record Got (s : Section) (m : ℕ) (barred : List ℕ) (from to : Rest → Record → Next) (f g : Fields) (own : List ℕ) : Type 0 where
+  pub behind : Behind f g
   pub long : 2 ^ m ≤ length own
   pub most : (c : ℕ) → c < 2 ^ m → entry own c ≤ most_own s
   pub leads : (rest : Rest) (r : Record) → ReadBefore s m barred r → Leads (from rest r) f (to rest (with_own s (entry own) r)) g

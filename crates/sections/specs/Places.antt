@@ -13,6 +13,12 @@ offset_of f = f.size - length f.rest.now
 abbrev pub number_at : Fields → ℕ → ℕ
 number_at f k = number_in (take k f.rest.now)
 
+-- the cursor g stands in the form of f, where f does or behind it
+pub record Behind (f g : Fields) : Type 0 where
+  pub size : g.size ≡ f.size
+  pub passed : ℕ
+  pub rest : g.rest.now ≡ drop passed f.rest.now
+
 -- a field of k bytes whose number n is `low` to `high`, and the cursor g behind it
 pub record Fits (f : Fields) (k low high : ℕ) (g : Fields) (n : ℕ) : Type 0 where
   pub inside : k ≤ length f.rest.now

@@ -1,7 +1,7 @@
 // A section, whichever it is: a count, and as many combinations, each with the number behind it.
 #![tactic(auto)]
 
-ghost use Rattle.std.specs.Prelude.{◌≡◌};
+ghost use Rattle.std.specs.Prelude.{◌≡◌, OnErr};
 ghost use Rattle.sections.specs.Parts.{least, has_in, EntriesRead, SectionRead};
 
 pub mod fields;
@@ -48,25 +48,32 @@ fn read_entries(
     let mut own = [0u32; 32];
     let mut low: usize = 0;
     let mut sum: usize = 0;
+    // a cursor of its own: the lent one is set once, and stays where it was if an entry is refused
+    let mut fields = form.fields;
     for _ in 0..n {
-        let place = form.fields.place();
-        let c = form.fields.field(1, low, top)?;
+        let place = fields.place();
+        let c = fields.field(1, low, top)?;
         if barred[c] != 0 {
             return Err(Refusal::Unreadable(place));
         }
         let most = Sheet::MOST_HELD as usize - sum;
-        let behind = form.fields.field(section.bytes_behind(), few, most)?;
+        let behind = fields.field(section.bytes_behind(), few, most)?;
         own[c] = has_in(section, behind as u32);
         sum += behind;
         low = c + 1;
     }
+    form.fields = fields;
     Ok(own)
 }
 
-// What each combination has in the section that comes next.
+// What each combination has in the section that comes next. Where it is refused the form stays where it was.
 pub fn read(form: &mut Form<'_>, section: Section, barred: &[u32; 32]) -> Result<[u32; 32], Refusal>
-    ensures { SectionRead section barred.now form.old form.new result }
+    ensures read { SectionRead section barred.now form.old form.new result }
+    ensures kept { OnErr result (form.new ≡ form.old) }
 {
-    let count = form.fields.field(2, 0, boxes::power2(form.marks))?;
-    read_entries(form, count, section, barred)
+    let mut behind = *form;
+    let count = behind.fields.field(2, 0, boxes::power2(form.marks))?;
+    let own = read_entries(&mut behind, count, section, barred)?;
+    *form = behind;
+    Ok(own)
 }

@@ -1,20 +1,21 @@
 -- The bytes hold a sound sheet, which answers, or none.
 use Rattle.std.proofs.lemmas.Result.{err_from_is_err_and}
+use Rattle.std.proofs.Common.{refl, Err}
 use Rattle.stored.specs.declared.Layout.TheVariants.{Today}
 use Rattle.sheet.proofs.Ready.{class_of_ready}
 use Rattle.sheet.specs.Answers.{ClassSize}
-use Rattle.lent.specs.Entries.{no_reply}
+use Rattle.lent.specs.Entries.{no_reply, reply_of}
 use Rattle.lent.specs.Entries.TellsAs.{unread, told}
-use Rattle.lent.proofs.Replies.{holds, holds_none, holds_ready}
+use Rattle.lent.proofs.Replies.{holds, no_sheet, the_sheet, holds_ready}
 use Rattle.lent.proofs.class_size.Goals as goal
 
 pub returns-in_err-s : goal.returns-in_err-s
 returns-in_err-s c =
     let p = err_from_is_err_and c.from_residual.result c.from_residual.ensures.1 in
-    rw (p.1, p.2) (unread (holds_none no_reply _ c.in_err-s.ensures))
+    rw (p.1, p.2) (unread (no_sheet no_reply (λ e. reply_of (Err e)) (λ x. refl) c.read-read.result _ c.in_err-s.ensures c.read-read.ensures))
 
 pub size_sound-requires : goal.size_sound-requires
-size_sound-requires c = class_of_ready (holds_ready Today _ (λ i. (c.type_inv.sheet i).fits) c.in_ok-s.ensures)
+size_sound-requires c = class_of_ready (holds_ready Today _ (λ i. (c.type_inv.sheet i).fits) (the_sheet c.read-read.result _ c.in_ok-s.ensures c.read-read.ensures))
 
 pub returns : goal.returns
-returns c = told (holds _ c.in_ok-s.ensures) (rw c.size_sound.ensures (ClassSize.told (class_of_ready (holds_ready Today _ (λ i. (c.type_inv.sheet i).fits) c.in_ok-s.ensures))))
+returns c = told (holds _ (the_sheet c.read-read.result _ c.in_ok-s.ensures c.read-read.ensures)) (rw c.size_sound.ensures (ClassSize.told (class_of_ready (holds_ready Today _ (λ i. (c.type_inv.sheet i).fits) (the_sheet c.read-read.result _ c.in_ok-s.ensures c.read-read.ensures)))))

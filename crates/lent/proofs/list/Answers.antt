@@ -1,19 +1,20 @@
 -- The bytes hold a sound sheet, or none.
 use Rattle.std.proofs.lemmas.Result.{err_from_is_err_and}
+use Rattle.std.proofs.Common.{refl, Err}
 use Rattle.stored.specs.declared.Layout.TheVariants.{Today}
 use Rattle.sheet.proofs.Ready.{class_of_ready}
-use Rattle.lent.specs.Entries.{no_reply}
+use Rattle.lent.specs.Entries.{no_reply, reply_of}
 use Rattle.lent.specs.Entries.Lends.{unread}
-use Rattle.lent.proofs.Replies.{holds, holds_none, holds_ready, value_lent, listed_no_ten}
+use Rattle.lent.proofs.Replies.{holds, no_sheet, the_sheet, holds_ready, value_lent, listed_no_ten}
 use Rattle.lent.proofs.list.Goals as goal
 
 pub returns-in_err-s : goal.returns-in_err-s
 returns-in_err-s c =
     let p = err_from_is_err_and c.from_residual.result c.from_residual.ensures.1 in
-    rw (p.1, p.2) (unread (holds_none no_reply _ c.in_err-s.ensures))
+    rw (p.1, p.2) (unread (no_sheet no_reply (λ e. reply_of (Err e)) (λ x. refl) c.read-read.result _ c.in_err-s.ensures c.read-read.ensures))
 
 pub list_sound-requires : goal.list_sound-requires
-list_sound-requires c = class_of_ready (holds_ready Today _ (λ i. (c.type_inv.sheet i).fits) c.in_ok-s.ensures)
+list_sound-requires c = class_of_ready (holds_ready Today _ (λ i. (c.type_inv.sheet i).fits) (the_sheet c.read-read.result _ c.in_ok-s.ensures c.read-read.ensures))
 
 pub returns : goal.returns
-returns c = value_lent _ _ (holds _ c.in_ok-s.ensures) c.list_sound.ensures (listed_no_ten c.list_sound.ensures)
+returns c = value_lent _ _ (holds _ (the_sheet c.read-read.result _ c.in_ok-s.ensures c.read-read.ensures)) c.list_sound.ensures (listed_no_ten c.list_sound.ensures)

@@ -2,15 +2,16 @@
 use mathlib.Core.Path.{ap}
 use Prim.Native.Nat.{ℕ}
 use Rattle.std.proofs.lemmas.Result.{err_from_is_err_and}
-use Rattle.lent.specs.Entries.{no_reply}
+use Rattle.std.proofs.Common.{refl, Err}
+use Rattle.lent.specs.Entries.{no_reply, reply_of}
 use Rattle.lent.specs.Entries.TellsAs.{unread, told}
-use Rattle.lent.proofs.Replies.{holds, holds_none}
+use Rattle.lent.proofs.Replies.{holds, no_sheet, the_sheet}
 use Rattle.lent.proofs.outside.Goals as goal
 
 pub returns-in_err-s : goal.returns-in_err-s
 returns-in_err-s c =
     let p = err_from_is_err_and c.from_residual.result c.from_residual.ensures.1 in
-    rw (p.1, p.2) (unread (holds_none no_reply _ c.in_err-s.ensures))
+    rw (p.1, p.2) (unread (no_sheet no_reply (λ e. reply_of (Err e)) (λ x. refl) c.read-read.result _ c.in_err-s.ensures c.read-read.ensures))
 
 pub returns : goal.returns
-returns c = told (holds _ c.in_ok-s.ensures) (ap (λ (x : ℕ). record { number = 0; value = x }) c.kept.ensures)
+returns c = told (holds _ (the_sheet c.read-read.result _ c.in_ok-s.ensures c.read-read.ensures)) (ap (λ (x : ℕ). record { number = 0; value = x }) c.kept.ensures)

@@ -10,7 +10,6 @@ loop-init c =
     let m = c.args.form.now.marks in (
       ap (λ (x : ℕ). x - 1) c.power2-top.ensures.0,
       rw (sub-zero c.args.n) (reached_none c.args.section m c.args.barred.now _ (λ j l. same-entry m 0 j c.args.form.now.few l) c.args.n c.args.form.now.fields (combinations_fit m c.args.form.now.few)),
-      refl,
     )
 
 pub returns-in_err-c : goal.returns-in_err-c
@@ -44,8 +43,7 @@ loop-preserved c = (
       rw (left, c.has_in.ensures)
       (reached_more c.loop.invariant.1 (omega arith) (rw c.loop.invariant.0 at c.in_ok-c.ensures.read) (omega arith)
       (rw (c.bytes_behind.ensures.0, c.least-few.ensures) at c.in_ok-behind.ensures.read))),
-  c.loop.invariant.2,
 )
 
 pub returns : goal.returns
-returns c = (c.loop.invariant.2, reached_end c.loop.invariant.1 (omega arith))
+returns c = (refl, reached_end c.loop.invariant.1 (omega arith))

@@ -5,4 +5,4 @@ use Rattle.sections.proofs.read_entries.Given as goal
 
 abbrev pub invariant-loop : goal.invariant-loop
 invariant-loop l =
-    (l.top ≡ 2 ^ l.initial.form.marks - 1) × EntriesReached l.section l.initial.form.marks l.barred l.n l.initial.form.fields l.form.fields l.own l.low (l.n - l.counter) l.sum × (l.form.marks ≡ l.initial.form.marks)
+    (l.top ≡ 2 ^ l.initial.form.marks - 1) × EntriesReached l.section l.initial.form.marks l.barred l.n l.initial.form.fields l.fields l.own l.low (l.n - l.counter) l.sum
