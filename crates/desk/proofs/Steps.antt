@@ -102,13 +102,13 @@ module _ {row : Row} {a : Answer} (f : FirstAnswered row a) where
   first_opened {out = out} z =
       answered (going (first_record f.says)) 0 (opens f.opens (sym number_is ∙ z)) (ap (λ (x : Answer). Going x.sheet) f.is) refl (wrote_none out 0) (omega arith)
 
-  pub first_shut : {k w : ℕ} {out later : List ℕ} → Wrote out 0 (refusal k a.number) w later → w ≤ page_room → (a.number ≡ 0 → ⊥) → FirstTaken k row out Over w later
+  pub first_shut : {k w : ℕ} {out later : List ℕ} → Wrote out 0 (refusal k a.number) w later → w ≤ page_room → (a.number ≡ 0 → ⊥) → FirstTaken k row out (Over a.sheet) w later
   first_shut {k} p short n =
       record {
         state = over (first_record f.says);
         said = refusal k (first_number f.says);
         step = shut f.opens (λ y. n (number_is ∙ y));
-        is = refl;
+        is = ap (λ (x : Answer). Over x.sheet) f.is;
         laid = wrote_text (ap (refusal k) number_is) p;
         short = short;
       }
@@ -133,20 +133,20 @@ module _ {sheet : Sheet} {r : Record} (of : OfRecord sheet r) where
         pub later_unread : o ≡ NotRead → answer ≡ Err (Unreadable 0) → d ≡ Going sheet → LaterTaken k r row out d w later
         later_unread q same is = answered (going r) 10 (unread (asks q)) (is ∙ ap Going of.is) (ap answer_number same) laid short
 
-      pub later_ended : o ≡ End → Printed r out 0 w later → LaterTaken k r row out Over w later
-      later_ended q p = record { state = over r; said = p.text; step = ended (asks q) p.result; is = refl; laid = p.wrote; short = omega (arith, p.short) }
+      pub later_ended : o ≡ End → Printed r out 0 w later → LaterTaken k r row out (Over sheet) w later
+      later_ended q p = record { state = over r; said = p.text; step = ended (asks q) p.result; is = ap Over of.is; laid = p.wrote; short = omega (arith, p.short) }
 
 -- by the stage
 
 sheet_held : Sheet → Desk → Sheet
 sheet_held other Opening = other
 sheet_held other (Going sheet) = sheet
-sheet_held other Over = other
+sheet_held other (Over sheet) = other
 
 stage_no : Desk → ℕ
 stage_no Opening = 0
 stage_no (Going sheet) = 1
-stage_no Over = 2
+stage_no (Over sheet) = 2
 
 other_stage : {Q : Type 0} {d e : Desk} → d ≡ e → (stage_no d ≡ stage_no e → ⊥) → Q
 other_stage q n = absurd (n (ap stage_no q))
@@ -175,7 +175,7 @@ module _ {d after : Desk} {k w : ℕ} {row : Row} {out later : List ℕ} where
   step_going q e s i =
       let at = of_record q s i in taken s i (subst (λ (t : State). SteppedBy holdings desk_of k t row out after w later) (sym at.1) (e at.0 at.2))
 
-pub step_over : {d : Desk} {k : ℕ} {row : Row} {out : List ℕ} → d ≡ Over → Steps kind d k row out d 0 out
+pub step_over : {d : Desk} {sheet : Sheet} {k : ℕ} {row : Row} {out : List ℕ} → d ≡ Over sheet → Steps kind d k row out d 0 out
 unfolding stage_no
 step_over {out = out} q (over r) i =
     taken (over r) i (record { state = over r; said = []; step = Step.silent; is = i.is; laid = wrote_none out 0; short = omega arith })
@@ -203,7 +203,7 @@ module _ {d : Desk} {out : List ℕ} {at : ℕ} where
       let t = p w.0 w.2 in
       subst (λ (x : State). StoppedBy holdings x out at n later) (sym w.1) (record { said = t.text; stop = Stop.result t.result; laid = t.wrote })
 
-  pub stop_over : d ≡ Over → Stops kind d out at at out
+  pub stop_over : {sheet : Sheet} → d ≡ Over sheet → Stops kind d out at at out
   unfolding stage_no
   stop_over q (over r) i = record { said = []; stop = Stop.silent; laid = wrote_none out at }
   stop_over q first i = other_stage (sym q ∙ i.is) (λ z. omega arith)

@@ -19,12 +19,12 @@ record_in (over r) = r
 abbrev pub desk_of : State → Desk
 desk_of first = Opening
 desk_of (going r) = Going (sheet_of entries r)
-desk_of (over r) = Over
+desk_of (over r) = Over (sheet_of entries r)
 
 abbrev pub is_over : Desk → Bool
 is_over Opening = false
 is_over (Going sheet) = false
-is_over Over = true
+is_over (Over sheet) = true
 
 -- the program `holdings`
 abbrev pub kind : machine.Kind Desk

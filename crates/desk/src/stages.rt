@@ -18,12 +18,12 @@ use machine::{Line, Program};
 use refusals::Refusal;
 use sheet::{Refused, Sheet};
 
-// In front of line 1, behind it, or over.
+// In front of line 1, behind it, or over, with the sheet that it ended with.
 #[derive(Clone, Copy)]
 pub enum Desk {
     Opening,
     Going(Sheet),
-    Over,
+    Over(Sheet),
 }
 
 // What the line at hand opens as line 1.
@@ -57,7 +57,7 @@ impl Desk {
                 0
             }
             Err(refused) => {
-                *self = Desk::Over;
+                *self = Desk::Over(refused.sheet);
                 machine::refusal(out, line.number, refused.refusal.number())
             }
         }
@@ -74,7 +74,7 @@ impl Program for Desk {
     // A match, since `matches!` would let a further stage pass unasked.
     fn is_over(&self) -> bool {
         match self {
-            Desk::Over => true,
+            Desk::Over(_) => true,
             Desk::Opening | Desk::Going(_) => false,
         }
     }
@@ -88,13 +88,13 @@ impl Program for Desk {
                     Order::Unreadable => Err(Refusal::Unreadable(0)),
                     Order::End => {
                         let wrote = page::result(out, 0, sheet);
-                        *self = Desk::Over;
+                        *self = Desk::Over(*sheet);
                         return wrote;
                     }
                 };
                 spoken(out, line.number, answer)
             }
-            Desk::Over => 0,
+            Desk::Over(_) => 0,
         }
     }
 
@@ -102,7 +102,7 @@ impl Program for Desk {
         match self {
             Desk::Going(sheet) => page::result(out, at, sheet),
             Desk::Opening => at,
-            Desk::Over => at,
+            Desk::Over(_) => at,
         }
     }
 
