@@ -73,8 +73,8 @@ module _ {row : Row} {k : ℕ} {out : List ℕ} where
   line_named {y = y} r q = record { state = named y; said = []; step = names (subst (RowNames row) q r); is = refl; laid = wrote_none out 0; short = omega arith }
 
   pub line_nameless : {w : ℕ} {later : List ℕ} {n : Option ℕ} → RowNames row n → n ≡ None → Wrote out 0 (refusal k 10) w later → w ≤ page_room
-      → YearTaken k row out Over w later
-  line_nameless r q p short = answered (over (begun 0 1)) 10 (nameless (subst (RowNames row) q r)) refl refl p short
+      → {year : Booked} → year ≡ beginning 0 (sheet_of entries (opened 1)) → YearTaken k row out (Over year) w later
+  line_nameless r q p short is = answered (over (begun 0 1)) 10 (nameless (subst (RowNames row) q r)) (ap Over (is ∙ begun-is 0 1 refl)) refl p short
 
 sheet_opened : {row : Row} {a : Answer} (f : FirstAnswered row a) → a.sheet ≡ sheet_of entries (opened (first_record f.says).marks)
 sheet_opened f = ap (λ (x : Answer). x.sheet) f.is ∙ ap (sheet_of entries) (first_record_opened f.says)
@@ -90,12 +90,12 @@ module _ {row : Row} {a : Answer} (f : FirstAnswered row a) {k y : ℕ} {out : L
     short = omega arith;
   }
 
-  pub marks_shut : {w : ℕ} {later : List ℕ} → Wrote out 0 (refusal k a.number) w later → w ≤ page_room → (a.number ≡ 0 → ⊥) → MarksTaken y k row out Over w later
-  marks_shut p short n = record {
+  pub marks_shut : {w : ℕ} {later : List ℕ} → Wrote out 0 (refusal k a.number) w later → w ≤ page_room → (a.number ≡ 0 → ⊥) → {year : Booked} → year ≡ beginning y a.sheet → MarksTaken y k row out (Over year) w later
+  marks_shut p short n q = record {
     state = over (opening y f.says);
     said = refusal k (first_number f.says);
     step = shut f.opens (λ z. n (number_is f ∙ z));
-    is = refl;
+    is = ap Over (q ∙ begun-is y (first_record f.says).marks (sheet_opened f));
     laid = wrote_text (ap (refusal k) (number_is f)) p;
     short = short;
   }
@@ -218,7 +218,7 @@ stage_no : Year → ℕ
 stage_no Naming = 0
 stage_no (Opening y) = 1
 stage_no (Going y) = 2
-stage_no Over = 3
+stage_no (Over y) = 3
 
 other_stage : {Q : Type 0} {y z : Year} → y ≡ z → (stage_no y ≡ stage_no z → ⊥) → Q
 other_stage q n = absurd (n (ap stage_no q))
@@ -227,13 +227,13 @@ booked_in : Booked → Year → Booked
 booked_in other Naming = other
 booked_in other (Opening y) = other
 booked_in other (Going y) = y
-booked_in other Over = other
+booked_in other (Over y) = other
 
 year_in : ℕ → Year → ℕ
 year_in other Naming = other
 year_in other (Opening y) = y
 year_in other (Going y) = other
-year_in other Over = other
+year_in other (Over y) = other
 
 -- behind line 2 the history of the state is booked
 pub holds : {d : Year} {y : Booked} → d ≡ Going y → (s : State) → In d s → (b : Bool) × (h : History) × (s ≡ going b h) × Holds y b h
@@ -269,7 +269,7 @@ module _ {d now : Year} {k w : ℕ} {row : Row} {out later : List ℕ} where
   step_going q e s i =
       let at = holds q s i in taken s i (subst (λ (t : State). SteppedBy months year_of k t row out now w later) (sym at.2) (e at.0 at.1 at.3))
 
-pub step_over : {d : Year} {k : ℕ} {row : Row} {out : List ℕ} → d ≡ Over → Steps kind d k row out d 0 out
+pub step_over : {d : Year} {y : Booked} {k : ℕ} {row : Row} {out : List ℕ} → d ≡ Over y → Steps kind d k row out d 0 out
 unfolding stage_no
 step_over {out = out} q (over h) i =
     taken (over h) i (record { state = over h; said = []; step = Step.silent; is = i.is; laid = wrote_none out 0; short = omega arith })
@@ -290,8 +290,8 @@ module _ {y : Booked} {b : Bool} {h : History} (i : Holds y b h) {row : Row} {sl
   asks e = subst (RowAsks h.marks row) e (subst (λ (m : ℕ). RowAsks m row slip) (marks_is i) asked)
 
   module _ {k w : ℕ} {out later : List ℕ} where
-    pub later_ended : slip ≡ Plain End → PageLaid y out 0 w later → LaterTaken k b h row out Over w later
-    later_ended q p = let at = p b h i in record { state = over h; said = page h; step = ended (asks q); is = refl; laid = at.1; short = omega (arith, at.0) }
+    pub later_ended : slip ≡ Plain End → PageLaid y out 0 w later → LaterTaken k b h row out (Over (record { dated = false; sheet = y.sheet; last = y.last; closed = y.closed })) w later
+    later_ended q p = let at = p b h i in record { state = over h; said = page h; step = ended (asks q); is = ap (λ (x : Booked). Over (record { dated = false; sheet = x.sheet; last = x.last; closed = x.closed })) i.is; laid = at.1; short = omega (arith, at.0) }
 
     module _ {d : Year} {answer : Result (Unit {0}) Refusal} (laid : Wrote out 0 (spoken k (answer_number answer)) w later) (short : w ≤ page_room) where
       pub later_dated : {t : Date} {c : Call} {f : Option Form} {a : Result (Unit {0}) Refusal} {now : Booked} → slip ≡ Dated t c f → BooksOnDay y t c a now → answer ≡ a
@@ -335,7 +335,7 @@ module _ {d : Year} {out : List ℕ} {at : ℕ} where
       let n = holds q s i in
       subst (λ (t : State). StoppedBy months t out at w later) (sym n.2) (record { said = page n.1; stop = Stop.rows; laid = (p n.0 n.1 n.3).1 })
 
-  pub stop_over : d ≡ Over → Stops kind d out at at out
+  pub stop_over : {y : Booked} → d ≡ Over y → Stops kind d out at at out
   unfolding stage_no
   stop_over q (over h) i = record { said = []; stop = Stop.silent; laid = wrote_none out at }
   stop_over q first i = other_stage (sym q ∙ i.is) (λ z. omega arith)

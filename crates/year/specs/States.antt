@@ -28,7 +28,7 @@ abbrev pub year_of : State → Year
 year_of first = Naming
 year_of (named y) = Opening y
 year_of (going b h) = Going (booked_with b h)
-year_of (over h) = Over
+year_of (over h) = Over (booked_with false h)
 
 -- a state that a session can be in: as long as no dated line has come, no month is over
 abbrev pub Sensible : State → Type 0
@@ -41,7 +41,7 @@ abbrev pub is_over : Year → Bool
 is_over Naming = false
 is_over (Opening y) = false
 is_over (Going booked) = false
-is_over Over = true
+is_over (Over booked) = true
 
 -- the program `months`
 abbrev pub kind : machine.Kind Year

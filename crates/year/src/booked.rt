@@ -79,7 +79,7 @@ impl Booked {
         changes::did(&mut self.sheet, call)
     }
 
-    // A call on a day. The totals are those of the sheet before the call, which stays as it was where the call is refused.
+    // A call on a day. The totals are those of the sheet before the call, and are asked for behind it: a refused call asks for none.
     pub fn on_day(&mut self, date: Date, call: Call) -> Result<(), Refusal>
         requires { GoesOn self.old }
         ensures { BooksOnDay self.old date call result self.new }
@@ -88,9 +88,9 @@ impl Booked {
         if !in_order(date, self.last) {
             return Err(Refusal::Date);
         }
-        let closed = self.totals_to(date.month);
+        let before = *self;
         changes::did(&mut self.sheet, call)?;
-        self.closed = closed;
+        self.closed = before.totals_to(date.month);
         self.last = date;
         Ok(())
     }

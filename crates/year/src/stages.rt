@@ -11,16 +11,17 @@ use lines::Order;
 use machine;
 use machine::{Line, Program};
 use refusals::Refusal;
+use sheet::Sheet;
 use year_lines;
 use year_lines::Slip;
 
-// In front of line 1, in front of line 2 with the year that line 1 named, behind it with what is booked, or over.
+// In front of line 1, in front of line 2 with the year that line 1 named, behind it with what is booked, or over with what was booked then.
 #[derive(Clone, Copy)]
 pub enum Year {
     Naming,
     Opening(usize),
     Going(Booked),
-    Over,
+    Over(Booked),
 }
 
 impl Year {
@@ -35,7 +36,7 @@ impl Year {
                 0
             }
             None => {
-                *self = Year::Over;
+                *self = Year::Over(Booked::new(0, Sheet::opened(1)));
                 machine::refusal(out, line.number, Refusal::Unreadable(0).number())
             }
         }
@@ -52,7 +53,7 @@ impl Year {
                 0
             }
             Err(refused) => {
-                *self = Year::Over;
+                *self = Year::Over(Booked::new(year, refused.sheet));
                 machine::refusal(out, line.number, refused.refusal.number())
             }
         }
@@ -69,7 +70,7 @@ impl Program for Year {
     // A match, as in desk.
     fn is_over(&self) -> bool {
         match self {
-            Year::Over => true,
+            Year::Over(_) => true,
             Year::Naming | Year::Opening(_) | Year::Going(_) => false,
         }
     }
@@ -88,13 +89,14 @@ impl Program for Year {
                     Slip::Plain(Order::Unreadable) => Err(Refusal::Unreadable(0)),
                     Slip::Plain(Order::End) => {
                         let wrote = booked.put_page(out, 0);
-                        *self = Year::Over;
+                        booked.dated = false;
+                        *self = Year::Over(*booked);
                         return wrote;
                     }
                 };
                 desk::spoken(out, line.number, answer)
             }
-            Year::Over => 0,
+            Year::Over(_) => 0,
         }
     }
 
@@ -103,7 +105,7 @@ impl Program for Year {
             Year::Going(booked) => booked.put_page(out, at),
             Year::Naming => at,
             Year::Opening(_) => at,
-            Year::Over => at,
+            Year::Over(_) => at,
         }
     }
 

@@ -9,8 +9,8 @@ use Rattle.bookings.proofs.Bookings.{ok_day, ok_month}
 use Rattle.year.proofs.Steps.{day_refused, day_taken}
 use Rattle.year.proofs.booked.Booked.on_day.Goals as goal
 
-pub totals_to-closed-requires-clause-month_le_month : goal.totals_to-closed-requires-clause-month_le_month
-totals_to-closed-requires-clause-month_le_month c =
+pub totals_to-self-requires-clause-month_le_month : goal.totals_to-self-requires-clause-month_le_month
+totals_to-self-requires-clause-month_le_month c =
     let ok = sym c.in_order.ensures ∙ c.if-not-in_order.false in
     let day = day_month c.args.date (ok_day _ c.args.self.now.last c.args.date ok) in
     (ok_month _ c.args.self.now.last c.args.date ok refl, omega (arith, day.1))
@@ -25,4 +25,4 @@ returns-in_err-did c =
 pub returns : goal.returns
 returns c =
     let ok = sym c.in_order.ensures ∙ c.if-not-in_order.false in
-    day_taken c.args.date c.args.call (Ok c.in_ok-did.field-0) c.did.new.sheet ok c.in_ok-did.ensures.answer refl c.totals_to-closed.ensures
+    day_taken c.args.date c.args.call (Ok c.in_ok-did.field-0) c.did.new.sheet ok c.in_ok-did.ensures.answer refl c.totals_to-self.ensures

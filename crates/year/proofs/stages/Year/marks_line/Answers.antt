@@ -15,4 +15,4 @@ pub returns-in-Err : goal.returns-in-Err
 returns-in-Err c =
     let some = never_done c.in-Err.refused.refusal in
     let laid = wrote_text (ap (refusal c.args.line.now.number) c.number.ensures) c.refusal.ensures in
-    marks_shut c.in-Err.ensures laid (refusal_short c.args.line.now.number _ some laid (omega arith) (omega (arith, c.number.ensures))) some
+    marks_shut c.in-Err.ensures laid (refusal_short c.args.line.now.number _ some laid (omega arith) (omega (arith, c.number.ensures))) some c.new-in-Err.ensures
