@@ -16,7 +16,7 @@ pub fn limits()
 {}
 
 // The line at hand, and where the program stands.
-#[derive(Drop)]
+#[derive(Clone, Copy, Drop)]
 pub struct Session<P> {
     pub line: Line,
     pub program: P,
@@ -61,10 +61,11 @@ impl<P: Program> Session<P> {
         Fed { used, wrote }
     }
 
-    // The input is at its end: a last line without newline is taken as one that cannot be read, and the program stops.
-    pub fn finish(&mut self, out: &mut [u8]) -> usize
-        requires { SessionReady P.kind self.old out.old }
-        ensures { Closes P.kind self.old out.old result out.new }
+    // The input is at its end: a last line without newline is taken as one that cannot be read, and the program stops. It takes the session by value, since
+    // nothing goes on behind the end; a caller who keeps a copy can feed that on.
+    pub fn finish(mut self, out: &mut [u8]) -> usize
+        requires { SessionReady P.kind self out.old }
+        ensures { Closes P.kind self out.old result out.new }
     {
         if self.line.is_none() {
             return self.program.stop(out, 0);
