@@ -63,15 +63,21 @@ module _ {P : Type 0} (k : Kind P) where
     runs_at = r.passed.took.at
 
     module _ {t : Session P} {piece : List ℕ} (behind after : Option (List ℕ)) (read : Consumes later behind piece) (v : Served k r.passed.took.position piece t now after) where
-      pub runs_more : k.over t.program ≡ false → Runs k t left behind held after
+      pub whole : k.over t.program ≡ false → piece ≡ v.taken
+      whole o = v.is ∙ ap (λ (l : List ℕ). v.taken ++ l) (v.all o) ∙ append-nil v.taken
+
+      unfoldable pub runs_more : k.over t.program ≡ false → Runs k t left behind held after
       unfolding took_then
-      runs_more o =
-          let whole : v.taken ≡ piece = sym (v.is ∙ ap (λ (l : List ℕ). v.taken ++ l) (v.all o) ∙ append-nil v.taken) in
-          record {
-            input = r.input ++ v.taken;
-            read = Consumes-trans left later behind _ _ r.read (subst (Consumes later behind) (sym whole) read);
-            passed = record { took = took_then k r.passed.took v.passed.took; wrote = Appends-trans held now after _ _ r.passed.wrote v.passed.wrote };
-          }
+      runs_more o = record {
+        input = r.input ++ v.taken;
+        read = Consumes-trans left later behind _ _ r.read (subst (Consumes later behind) (whole o) read);
+        passed = record { took = took_then k r.passed.took v.passed.took; wrote = Appends-trans held now after _ _ r.passed.wrote v.passed.wrote };
+      }
+
+      -- by as much as was read
+      pub runs_longer : (o : k.over t.program ≡ false) → length (runs_more o).input ≡ length r.input + length piece
+      unfolding runs_more
+      runs_longer o = length-append r.input v.taken ∙ ap (λ (l : List ℕ). length r.input + length l) (sym (whole o))
 
       -- the program is over: what is left of the piece, and of the input, prints nothing
       pub serves_over : SilentWhenOver k → k.over t.program ≡ true → Serves k left behind held after

@@ -1,5 +1,5 @@
 -- What a program at a reader and a writer has read and written.
-use Rattle.std.specs.Prelude.{ℕ, ◌≡◌, ◌<◌, ◌⊎◌, false, List, [], ◌++◌, Option, length, take}
+use Rattle.std.specs.Prelude.{ℕ, ◌≡◌, ◌<◌, ◌≤◌, ◌⊎◌, false, List, [], ◌++◌, Option, length, take}
 use Rattle.std.specs.Io.KnownBytes.{Consumes, Appends, IsAtEnd}
 use Rattle.machine.specs.Machine.{Output}
 use Rattle.machine.specs.Pieces.{Position, start, Finishes}
@@ -35,6 +35,12 @@ pub record Runs {P : Type 0} (k : Kind P) (s : Session P) (left later held now :
   pub input : List ℕ
   pub read : Consumes left later input
   pub passed : Passed k (start k.machine) input s held now
+
+-- so many reads were made, each of a byte or more: what was written is what the lines so far print, and nothing else. An input of fewer bytes is never used up so.
+pub record UsedUp {P : Type 0} (k : Kind P) (reads : ℕ) (left later held now : Option (List ℕ)) : Type 0 where
+  pub session : Session P
+  pub runs : Runs k session left later held now
+  pub long : reads ≤ length runs.input
 
 -- WHAT WAS WRITTEN IS THE OUTPUT OF WHAT WAS READ, and that is all of the input, or enough of it: then the output is the same whatever follows
 pub record Serves {P : Type 0} (k : Kind P) (left later held now : Option (List ℕ)) : Type 0 where

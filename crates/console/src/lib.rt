@@ -1,11 +1,11 @@
 // A program at its input and output: feeds a session with what is read, and writes at once what it says. What it writes is the output of what it reads.
 #![tactic(auto)]
 
-ghost use Rattle.std.specs.Prelude.{◌≡◌, ◌+◌, ◌≤◌, ◌<◌, ◌^◌, length, IfOk, IfErr, OnOk};
+ghost use Rattle.std.specs.Prelude.{◌≡◌, ◌+◌, ◌≤◌, ◌<◌, ◌^◌, ◌⊎◌, length, IfOk, IfErr, OnOk};
 ghost use Rattle.std.specs.Io.KnownBytes.{Appends};
 ghost use Rattle.machine.specs.Pieces.{Position};
 ghost use Rattle.sessions.specs.Sessions.{At, Stands};
-ghost use Rattle.console.specs.Serves.{Fetched, Served, Closed, Serves};
+ghost use Rattle.console.specs.Serves.{Fetched, Served, Closed, Serves, UsedUp};
 
 use machine::Program;
 use sessions::{ROOM, Session};
@@ -22,7 +22,7 @@ pub enum Failed {
 }
 
 // How often a program reads. A proved loop has to end, and nothing says that the input does: no run uses up this number.
-const READS: u64 = 1_000_000_000_000_000;
+pub const READS: u64 = 1_000_000_000_000_000;
 
 // Reads the next piece; where that fails the program ends by it.
 fn fetch<R: Read>(input: &mut R, piece: &mut [u8]) -> Result<usize, Failed>
@@ -67,10 +67,10 @@ fn serve<W: Write, P: Program>(
 }
 
 // The input is at its end.
-fn close<W: Write, P: Program>(session: &mut Session<P>, output: &mut W) -> Result<(), Failed>
-    requires stands { Stands P.kind session.old }
-    requires number_bound { session.old.line.number + 1 < 2 ^ 63 }
-    ensures closed { OnOk result ((p : Position P.kind.machine) → At P.kind session.old p → Closed P.kind p (W.contents output.old) (W.contents output.new)) }
+fn close<W: Write, P: Program>(session: Session<P>, output: &mut W) -> Result<(), Failed>
+    requires stands { Stands P.kind session }
+    requires number_bound { session.line.number + 1 < 2 ^ 63 }
+    ensures closed { OnOk result ((p : Position P.kind.machine) → At P.kind session p → Closed P.kind p (W.contents output.old) (W.contents output.new)) }
     ensures failed { IfErr result (λ e. e ≡ Failed.Output) }
 {
     let mut out = [0u8; ROOM];
@@ -78,9 +78,11 @@ fn close<W: Write, P: Program>(session: &mut Session<P>, output: &mut W) -> Resu
     send(output, &out[..n])
 }
 
-// A program, from the first line to the end. An error of reading or writing ends it.
+// A program, from the first line to the end. An error of reading or writing ends it; so does the last of the reads, behind which nothing more is said.
 pub fn run<R: Read, W: Write, P: Program>(input: &mut R, output: &mut W) -> Result<(), Failed>
-    ensures { OnOk result (Serves P.kind (R.remaining input.old) (R.remaining input.new) (W.contents output.old) (W.contents output.new)) }
+    ensures { OnOk result
+        (Serves P.kind (R.remaining input.old) (R.remaining input.new) (W.contents output.old) (W.contents output.new)
+        ⊎ UsedUp P.kind READS (R.remaining input.old) (R.remaining input.new) (W.contents output.old) (W.contents output.new)) }
 {
     P::laws();
     let mut session = Session::<P>::new();
@@ -88,12 +90,12 @@ pub fn run<R: Read, W: Write, P: Program>(input: &mut R, output: &mut W) -> Resu
     for turn in 0..READS {
         let n = fetch(input, &mut piece)?;
         if n == 0 {
-            return close(&mut session, output);
+            return close(session, output);
         }
         serve(&mut session, &piece[..n], output)?;
         if session.is_over() {
             return Ok(());
         }
     }
-    Err(Failed::Input)
+    Ok(())
 }

@@ -21,19 +21,19 @@ pub slice_bounds-out-end : goal.slice_bounds-out-end
 slice_bounds-out-end g c =
     let a = c.requires.stands in
     let w = (c.loop-rest.invariant.3 a.0 a.1).took in
-    (wrote_front (c.feed-fed.ensures w.position w.at).fed.laid).1
+    omega (arith, (wrote_front (c.feed-fed.ensures w.position w.at).fed.laid).1)
 
 pub slice_bounds-send-end : goal.slice_bounds-send-end
 slice_bounds-send-end g c =
     let a = c.requires.stands in
     let w = (c.loop-rest.invariant.3 a.0 a.1).took in
-    sym (length-take-le _ _ (wrote_front (c.feed-fed.ensures w.position w.at).fed.laid).1)
+    omega (arith, length-take-le c.feed-fed.result.wrote c.feed-fed.new.out (wrote_front (c.feed-fed.ensures w.position w.at).fed.laid).1)
 
 pub split_at-requires : goal.split_at-requires
 split_at-requires g c =
     let a = c.requires.stands in
     let w = (c.loop-rest.invariant.3 a.0 a.1).took in
-    fed_within g.P.Program.kind w (c.feed-fed.ensures w.position w.at)
+    omega (arith, fed_within g.P.Program.kind w (c.feed-fed.ensures w.position w.at))
 
 pub loop-rest-smaller : goal.loop-rest-smaller
 loop-rest-smaller g c =
