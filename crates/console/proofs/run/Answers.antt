@@ -13,7 +13,9 @@ loop-turn-init g c =
 pub returns-then-n-eq0 : goal.returns-then-n-eq0
 returns-then-n-eq0 g c =
     let r = c.loop-turn.invariant.1 in
-    on_ok (λ closed. inl (serves_end g.P.Program.kind r {after = g.W.Write.contents c.close.new.output} {behind = g.R.Read.remaining c.fetch.new.input} c.in_ok-n.n c.fetch.new.piece (omega arith) (omega (arith, c.fetch.auto.piece)) c.in_ok-n.ensures.read (closed _ r.passed.took.at)))
+    let after = g.W.Write.contents c.close.new.output in
+    let behind = g.R.Read.remaining c.fetch.new.input in
+    on_ok (λ closed. inl (serves_end g.P.Program.kind r {after = after} {behind = behind} c.in_ok-n.n c.fetch.new.piece (omega arith) (omega (arith, c.fetch.auto.piece)) c.in_ok-n.ensures.read (closed _ r.passed.took.at)))
     c.close.result c.close.ensures.closed
 
 pub returns-then-is_over : goal.returns-then-is_over
