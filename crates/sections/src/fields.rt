@@ -19,7 +19,7 @@ fn number_in(bytes: &[u8]) -> usize
     ensures small { result < 256 ^ length bytes.now }
 {
     let mut n = 0;
-    // from the last byte down, by the number: each field of each form is read here, and a call for each byte took twice the time
+    // from the last byte down, by the number: a call of its own for each byte took an eighth of the time of an entry for C
     for i in (0..bytes.len()).rev() {
         n = n * 256 + usize::from(bytes[i]);
     }

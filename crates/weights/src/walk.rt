@@ -109,6 +109,10 @@ impl Simplex {
         let row = self.lowest()?;
         let u = self.row(row);
         let near = nearest(room, &self.y, &u)?;
+        // a table that tells a box of no combinations: nothing can be exchanged for it
+        if near.set == 0 {
+            return None;
+        }
         let mut d = self.column(near.set);
         self.exchange(&mut d, row, near.gain);
         Some(())
