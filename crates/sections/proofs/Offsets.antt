@@ -1,6 +1,6 @@
 -- A field that comes next in a form: its number, and how the run goes on where it is taken, faulty, or not complete.
 use Rattle.std.proofs.Common.{◌≡◌, ◌∙◌, ℕ, zero, suc, ◌+◌, ◌-◌, ◌*◌, ◌^◌, ◌≤◌, ◌<◌, refl, sym, ap, subst, List, [], ◌∷◌, length, get_or, take, drop, arith}
-use Rattle.std.proofs.lemmas.List.{take_all, drop-drop}
+use Rattle.std.proofs.lemmas.List.{drop-drop}
 use native.Mathlib.Nat.{pow-le-pow_right}
 use native.Mathlib.Numerals.{sub-one}
 use lib.ListN.{length-drop}
@@ -23,13 +23,6 @@ pub number_none : (l : List ℕ) → length l ≡ 0 → 0 ≡ number_in l
 unfolding number_in
 number_none [] e = refl
 number_none (b ∷ l) e = absurd (omega arith)
-
-pub number_more : (l : List ℕ) (low behind : ℕ) → 1 ≤ length l → low ≡ get_or l 0 0 → behind ≡ number_in (take (length l - 1) (drop 1 l)) → low + behind * 256 ≡ number_in l
-unfolding number_in
-number_more [] low behind h e q = absurd (omega arith)
-number_more (b ∷ l) low behind h e q =
-    let all : take (length (b ∷ l) - 1) l ≡ l = take_all (length (b ∷ l) - 1) l (omega arith) in
-    omega (arith, ap number_in all)
 
 -- the number of the bytes from the i-th on, which one byte more makes
 number_from : (l : List ℕ) (i : ℕ) → i < length l → number_in (drop i l) ≡ get_or l i 0 + number_in (drop (suc i) l) * 256

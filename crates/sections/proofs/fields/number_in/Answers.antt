@@ -1,7 +1,6 @@
-use Rattle.std.proofs.Common.{◌-◌, ◌^◌, ◌<◌, length, drop, subst, ap, arith, rules}
+use Rattle.std.proofs.Common.{◌-◌, length, drop, arith, rules}
 use native.Mathlib.Nat.{one-le-pow}
 use lib.ListN.{length-drop}
-use Rattle.stored.specs.Fields.{number_in}
 use Rattle.sections.proofs.Offsets.{number_none, number_small, number_grows, number_fits}
 use Rattle.sections.proofs.fields.number_in.Goals as goal
 
