@@ -57,6 +57,10 @@ pub no_sheet : {A : Type 0} {t : List ℕ} (refusal : Read → A) (told : Refusa
 no_sheet refusal told same (Ok s) e p reads = absurd p
 no_sheet {t = t} refusal told same (Err x) e p reads = subst (HoldsNone refusal t) (sym (ap told p ∙ same x)) (holds_none refusal x reads)
 
+pub no_read : (r : Result Sheet Refused) (e : Refusal) → IsErrAnd r (λ x. e ≡ x.refusal) → HoldsNoneBy (λ (a : Read). a ≡ read_as r) no_reply (reply_of (Err e))
+no_read (Ok s) e p = absurd p
+no_read (Err x) e p = subst (λ (q : Refusal). HoldsNoneBy (λ (a : Read). a ≡ read_as (Err x)) no_reply (reply_of (Err q))) (sym p) (holds_none no_reply x refl)
+
 -- a result whose number is not 10 has no place
 
 pub placeless : (r : Result ℕ Refusal) → ((value_of r).number ≡ 10 → ⊥) → reply_of r ≡ valued (value_of r)

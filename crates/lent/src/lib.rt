@@ -51,11 +51,9 @@ pub fn written(read: Result<Sheet, Refused>, out: &mut [u8]) -> Result<u64, Refu
     requires { Ready most_marks (read_as read).sheet }
     ensures { ChangesBy (λ a. a ≡ read_as read) same out.old (reply_of result) out.new }
 {
-    // as it lies there: `?` would copy the sheet
-    match &read {
-        Ok(s) => writing::write_sound(s, out),
-        Err(refused) => Err(refused.refusal),
-    }
+    // lent, as below: `?` on what was read would copy the sheet
+    let s = sheet_in(&read)?;
+    writing::write_sound(s, out)
 }
 
 // Makes a call on the lent sheet, and writes what is left.

@@ -25,17 +25,17 @@ number_none [] e = refl
 number_none (b ∷ l) e = absurd (omega arith)
 
 -- the number of the bytes from the i-th on, which one byte more makes
-number_from : (l : List ℕ) (i : ℕ) → i < length l → number_in (drop i l) ≡ get_or l i 0 + number_in (drop (suc i) l) * 256
+number_more : (l : List ℕ) (i : ℕ) → i < length l → number_in (drop i l) ≡ get_or l i 0 + number_in (drop (suc i) l) * 256
 unfolding number_in
-number_from [] i h = absurd (omega arith)
-number_from (b ∷ l) zero h = refl
-number_from (b ∷ l) (suc i) h = number_from l i (omega arith)
+number_more [] i h = absurd (omega arith)
+number_more (b ∷ l) zero h = refl
+number_more (b ∷ l) (suc i) h = number_more l i (omega arith)
 
 pub number_grows : (l : List ℕ) (i n b : ℕ) → 0 < i → i ≤ length l → n ≡ number_in (drop i l) → b ≡ get_or l (i - 1) 0 → n * 256 + b ≡ number_in (drop (i - 1) l)
 number_grows l zero n b h k e q = absurd (omega arith)
 number_grows l (suc i) n b h k e q =
     let at : b ≡ get_or l i 0 = q ∙ ap (λ (j : ℕ). get_or l j 0) (sub-one (suc i)) in
-    omega (arith, number_from l i (omega arith), e, at, ap (λ (j : ℕ). number_in (drop j l)) (sub-one (suc i)))
+    omega (arith, number_more l i (omega arith), e, at, ap (λ (j : ℕ). number_in (drop j l)) (sub-one (suc i)))
 
 pub number_fits : (n i j b : ℕ) → n < 256 ^ i → b < 256 → j ≡ suc i → n * 256 + b < 256 ^ j
 number_fits n i j b h k e = rw e (omega (arith, h, k))

@@ -48,7 +48,7 @@ fn read_entries(
     let mut own = [0u32; 32];
     let mut low: usize = 0;
     let mut sum: usize = 0;
-    // a cursor of its own: the lent one is set once, and stays where it was if an entry is refused
+    // a cursor of its own, so that the lent one is set once and not at each field
     let mut fields = form.fields;
     for _ in 0..n {
         let place = fields.place();
@@ -71,9 +71,9 @@ pub fn read(form: &mut Form<'_>, section: Section, barred: &[u32; 32]) -> Result
     ensures read { SectionRead section barred.now form.old form.new result }
     ensures kept { OnErr result (form.new ≡ form.old) }
 {
-    let mut behind = *form;
-    let count = behind.fields.field(2, 0, boxes::power2(form.marks))?;
-    let own = read_entries(&mut behind, count, section, barred)?;
-    *form = behind;
+    let mut next = *form;
+    let count = next.fields.field(2, 0, boxes::power2(form.marks))?;
+    let own = read_entries(&mut next, count, section, barred)?;
+    *form = next;
     Ok(own)
 }

@@ -15,7 +15,7 @@ pub fn limits()
     ensures { ROOM ≡ room }
 {}
 
-// The line at hand, and where the program stands.
+// The line at hand, and where the program stands. It is copied where the program may be; `Drop` is for one that may not.
 #[derive(Clone, Copy, Drop)]
 pub struct Session<P> {
     pub line: Line,
