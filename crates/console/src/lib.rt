@@ -78,8 +78,31 @@ fn close<W: Write, P: Program>(session: Session<P>, output: &mut W) -> Result<()
     send(output, &out[..n])
 }
 
-// A program, from the first line to the end. An error of reading or writing ends it; so does the last of the reads, behind which nothing more is said.
+// A program, from the first line to the end. An error of reading or writing ends it; so does the last of the reads, with which the input is given up.
 pub fn run<R: Read, W: Write, P: Program>(input: &mut R, output: &mut W) -> Result<(), Failed>
+    ensures { OnOk result (Serves P.kind (R.remaining input.old) (R.remaining input.new) (W.contents output.old) (W.contents output.new)) }
+{
+    P::laws();
+    let mut session = Session::<P>::new();
+    let mut piece = [0u8; 4096];
+    for read in 0..READS {
+        let n = fetch(input, &mut piece)?;
+        if n == 0 {
+            return close(session, output);
+        }
+        serve(&mut session, &piece[..n], output)?;
+        if session.is_over() {
+            return Ok(());
+        }
+    }
+    Err(Failed::Input)
+}
+
+// As `run`, but the last of the reads ends it well, and nothing more is said behind it.
+pub fn run_until_used_up<R: Read, W: Write, P: Program>(
+    input: &mut R,
+    output: &mut W,
+) -> Result<(), Failed>
     ensures { OnOk result
         (Serves P.kind (R.remaining input.old) (R.remaining input.new) (W.contents output.old) (W.contents output.new)
         ⊎ UsedUp P.kind READS (R.remaining input.old) (R.remaining input.new) (W.contents output.old) (W.contents output.new)) }
