@@ -98,7 +98,7 @@ pub fn run<R: Read, W: Write, P: Program>(input: &mut R, output: &mut W) -> Resu
     Err(Failed::Input)
 }
 
-// As `run`, but the last of the reads ends it well, and nothing more is said behind it.
+// As `run`, but the last of the reads ends it well, and nothing more is said behind it. `run` cannot call it, since its `Ok` does not tell the two cases apart.
 pub fn run_until_used_up<R: Read, W: Write, P: Program>(
     input: &mut R,
     output: &mut W,
